@@ -85,6 +85,18 @@ def with_program(program, checks):
     checks.same("other rows aren't passed on", feed.end(), "ospf: no ask row, and not passed on: put,1.1.1.1,10.0.0.0\n"
                 "ospf: no ask row, and not passed on: ask,1,2\"\n")
 
+    router = Router()
+    feed = Feed(router, command=(program.path, "solve", "--except"))
+    router.send(PAIR)
+    ask, end, reply = f"except,8,{A},{B},0,1000,0x0,0x0,0x0,,", time.monotonic() + PATIENCE, ""
+    while time.monotonic() < end and " v1 " not in (reply or ""):
+        feed.say(f"{ask}192.0.2.1/32i")
+        reply = feed.line()
+    feed.say(f"{ask}{A_B}/32i")
+    checks.same("rows that exclude are passed on", (reply, feed.line()),
+                ("except 8 v1 route cost=7 hops=1 again=no ero=000c140101080a0000012000", "except 8 v1 none"))
+    checks.same("and nothing is said of them", feed.end(), "")
+
     names = [f"9.0.{n >> 8}.{n & 255}" for n in range(1026)]
     ends = [(f"10.{n >> 8}.{n & 255}.1", f"10.{n >> 8}.{n & 255}.2") for n in range(1025)]
     links = [[] for _ in names]

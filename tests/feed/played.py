@@ -56,13 +56,14 @@ def tlv(kind, data):
     return struct.pack(">HH", kind, len(data)) + data + bytes(-len(data) % 4)
 
 
-def te_lsa(router, local, neighbor, remote, number="1.0.0.2", kind=1, metric=7, group=None, free=1000.0, most=2000.0, **more):
-    """A TE LSA of a link; what is None is left out."""
+def te_lsa(router, local, neighbor, remote, number="1.0.0.2", kind=1, metric=7, group=None, free=1000.0, most=2000.0, srlgs=(), **more):
+    """A TE LSA of a link; what is None is left out. Each of `srlgs` is the numbers or the bytes of a sub-TLV 16."""
     free = [free] * 8 if isinstance(free, float) else free
     values = [(1, ">B", kind), (2, "4s", neighbor and raw(neighbor)), (3, "4s", local and raw(local)),
               (4, "4s", remote and raw(remote)), (5, ">I", metric), (6, ">f", most), (9, ">I", group)]
     link = b"".join(tlv(at, struct.pack(form, value)) for at, form, value in values if value is not None)
     link += tlv(8, struct.pack(">8f", *free)) if free else b""
+    link += b"".join(tlv(16, each if isinstance(each, bytes) else struct.pack(f">{len(each)}I", *each)) for each in srlgs)
     return lsa(10, number, router, tlv(1, raw("9.9.9.9")) + tlv(2, link), **more)
 
 

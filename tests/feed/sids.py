@@ -31,13 +31,13 @@ def text_of(path):
 
 
 class Told:
-    """A feed with a file of SIDs in a folder of its own."""
+    """A feed with a file of SIDs, or of SRLGs, in a folder of its own."""
 
-    def __init__(self, *words, **more):
+    def __init__(self, *words, name="sids", **more):
         self.folder = tempfile.TemporaryDirectory()
-        self.path = os.path.join(self.folder.name, "sids")
+        self.path = os.path.join(self.folder.name, name)
         self.router = Router()
-        self.feed = Feed(self.router, "--sids", self.path, *words, **more)
+        self.feed = Feed(self.router, f"--{name}", self.path, *words, **more)
         self.read = 0
 
     def lines(self):
@@ -62,7 +62,7 @@ class Told:
         """Sends LSAs that make no batch, and gives the lines."""
         self.router.send(update(*lsas))
         if not self.feed.is_quiet():
-            raise AssertionError("a batch for a SID alone")
+            raise AssertionError("a batch for a line of the file alone")
         return self.lines()
 
     def end(self):

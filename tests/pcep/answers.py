@@ -47,7 +47,7 @@ def long(program, checks, room):
         whole = f"PCRep {' '.join(over)} cost 8183"
         checks.same("a route of 8,183 links", client.ask(request(iro, ends=there)), whole)
         for name, more in (("objects", {}), ("an SVEC", {"front": [pack(11, bytes(65000))]})):
-            objects = [iro] if more else [iro, pack(17, bytes(65000))]
+            objects = [iro] if more else [iro, pack(99, bytes(65000))]
             checks.same(f"it is whole beside {name} that can't come back", client.ask(request(*objects, ends=there, **more)), whole)
         nobody = pack(4, ip(250) + ip(251), must=True)
         size = wire.MOST // 4 * 4 - len(request(ends=nobody)) - 4
@@ -130,7 +130,7 @@ def drawn_request(draw, number):
     if draw.random() < 0.3:  # what a row can't say
         must = draw.random() < 0.4
         what, found = draw.choice((
-            (metric(3, 5, must=must), "4/4"), (IGP, "4/4"), (pack(17, bytes(4) + hop(2), must=must), "3/1"),
+            (metric(3, 5, must=must), "4/4"), (IGP, "4/4"), (pack(99, bytes(4) + hop(2), must=must), "3/1"),
             (pack(21, struct.pack("!HH", 2, 0), must=must), "4/4"), (pack(8, hop(2), must=must), "4/1"), (bandwidth(1, 2, must), "4/2")))
         objects.append(what)
         error = found if must or what is IGP else None

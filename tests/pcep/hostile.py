@@ -10,7 +10,9 @@ import tempfile
 import time
 
 from pcep.beside import Client, Run, addresses, begun, wait
+from pcep.excluded import SOFT, prefix, router, srlg, xro
 from pcep.played import NORTH, SOUTH, bandwidth, hop, ip, lspa, metric, report, request, rows
+from pcep.shared_risks import line, shared
 from program.serving import PATIENCE, has_come
 
 from routed.pcep import wire
@@ -35,9 +37,11 @@ def whole():
     ids = tlv(17, b"blue") + tlv(18, ip(1) + bytes(8) + ip(4))
     return [
         request(lspa(), bandwidth(1), metric(2, 500), pack(10, hop(3), must=True), pack(99, bytes(40))),
+        request(xro(prefix("10.1.2.1"), router(3, **SOFT), shared("10.1.3.1/30"), srlg(7), srlg(8, **SOFT)), xro(srlg(9), must=False)),
         request(pack(8, hop(2)), bandwidth(0, 2), rp=8), request(pack(32, struct.pack("!I", 1 << 12 | 9) + ids, must=True)),
         wire.message(3, pack(11, bytes(12)), request()[4:] * 3),
         wire.message(10, *report(1, ero=addresses(NORTH)), *report(2, ero=addresses(SOUTH), name=b"red")),
+        wire.message(10, *report(5, ero=addresses(NORTH), name=b"grey", more=[xro(prefix("10.1.2.1", **SOFT), router(2), srlg(7))])),
         wire.message(10, *report(3, ero=by_labels, name=b"green", setup_type=1, srp=1)), wire.message(10, *report(0, 0)),
         wire.message(10, *report(4, 0x89, ero=b"", name=b"brown", srp=7, error=4)),
         wire.error(4, 4, pack(33, struct.pack("!II", 0, 1))),
@@ -178,7 +182,10 @@ def taken(run):
 def mutations(program, checks, room):
     """Mutated messages of some PCCs at once, which come again when their sessions end. Those alone count that the front has taken."""
     draw, began, count = random.Random(31), time.monotonic(), 0
-    with Run(program.path, room) as run:
+    srlgs = os.path.join(room, "srlgs")
+    with open(srlgs, "w", encoding="ascii") as file:
+        file.writelines(f"{line(*link, *groups, version=0)}\n" for link, groups in (((1, 2), (7, 8)), ((1, 3), (9,))))
+    with Run(program.path, room, "--srlgs", srlgs, listen=["--except"]) as run:
         run.publish(*rows())
         beside, attackers = Beside(run, "127.0.60.1"), [Attacker(run, draw, number) for number in range(ATTACKERS)]
         before = taken(run)

@@ -220,7 +220,7 @@ def figures(program, checks, room):
                 client.ask(request(*objects, **more))
             counted[outcome] = counted.get(outcome, 0) + count
         asked = sum(counted.values())
-        for objects in ([metric(3, 9)], [metric(3, 9)], [pack(17, bytes(4), must=True)]):
+        for objects in ([metric(3, 9)], [metric(3, 9)], [pack(99, bytes(4), must=True)]):
             client.ask(request(*objects))
         client.report(1)
         client.report(2, name=b"red")

@@ -6,8 +6,10 @@ import os
 import socket
 import struct
 
+from reference import excepts
 from reference.formats import Network
 
+from routed.model.rows import row_of
 from routed.pcep import wire
 from routed.pcep.network import Network as Followed
 from routed.pcep.session import Session
@@ -36,10 +38,17 @@ def fars(*pairs):
 NORTH, SOUTH = fars((1, 2), (2, 4)), fars((1, 3), (3, 4))
 
 
+def reply(network, version, row):
+    """The reply line to an `ask` row or an `except` row, by the reference."""
+    fields = row.split(",")
+    return excepts.answer(network, version, excepts.question(fields)) if fields[0] == "except" else network.reply(version, row)
+
+
 class Front:
     """What a session needs of the front: asks are answered by the reference."""
 
-    def __init__(self, folder, sids=None, **options):
+    def __init__(self, folder, sids=None, srlgs=None, **options):
+        self.srlgs, self.asked = srlgs, []  # and the rows that were asked
         self.time, self.said, self.counted, self.held, self.laters = 0.0, [], {}, None, []
         self.options = argparse.Namespace(stateful=True, gain=0, calm=0, group=0, reopen=False, initiate=None, mark=None, messages=0,
                                           most_lsps=4096)
@@ -98,7 +107,8 @@ class Front:
         return name in self.unwanted(peer)
 
     def ask(self, row, call, owner=None):
-        line = self.reference.reply(self.version, f"ask,1,{row}") if self.version is not None else None
+        self.asked.append(row_of(1, row))
+        line = reply(self.reference, self.version, row_of(1, row)) if self.version is not None else None
         call(line) if self.held is None else self.held.append((call, line))
 
     def in_turn(self, asking):

@@ -34,7 +34,7 @@ def sids_of(room):
     return path
 
 
-CONSTRAINTS = [("an XRO", lambda must: pack(17, bytes(4) + hop(2), must=must)), ("a bound on hops", lambda must: metric(3, 5, 1, must)),
+CONSTRAINTS = [("a bound on hops", lambda must: metric(3, 5, 1, must)),
                ("an IGP metric to be optimized", lambda must: metric(1, 0, 0, must)),
                ("a bound on delay", lambda must: metric(12, 9, 1, must)),
                ("the objective MLP", lambda must: pack(21, struct.pack("!HH", 2, 0), must=must)),
@@ -278,9 +278,14 @@ REPORTED = {
         "a node SID can't be read as links", "IPv6", "an unnumbered interface", "an AS", "a part of a route",
         "a route that can't be read, {name}: not moved at each version", "a route that can't be read, {name}: said once"],
     "reports an LSP as DOWN, though its path may be used": ["DOWN on its best route", "DOWN: a version that touches {name}"],
-    ("delegates an LSP with a constraint that no row can say, whatever its P flag: XRO, a bound on hops, another metric or objective, an "
+    "delegates an LSP with an XRO": ["an LSP with an XRO, P {must:d}: it is moved at once", "an LSP with an XRO: a circuit fails",
+                                     "an LSP that should avoid a router", "its PCUpd has the XRO", "an LSP that names an SRLG"],
+    "delegates an LSP with an XRO that would be refused in a request with the P flag": [
+        "an LSP with an XRO of {name}, P {must:d}: it is given back", "an LSP whose SRLG has more than 64 circuits",
+        "a server that takes no except rows: an LSP"],
+    ("delegates an LSP with a constraint that no row can say, whatever its P flag: a bound on hops, another metric or objective, an "
      "IRO of 8 hops or of other kinds, an ASSOCIATION for disjoint paths, an unknown object"): [
-        "an XRO", "a bound on hops", "an IGP metric to be optimized", "a bound on delay", "the objective MLP", "an IRO of 8 hops",
+        "a bound on hops", "an IGP metric to be optimized", "a bound on delay", "the objective MLP", "an IRO of 8 hops",
         "an IRO of an AS", "disjoint paths", "an object of an unknown class", "an LSP with {name}, P {must:d}"],
     ("reports values that are no constraint: METRICs with the flag C and a value, BANDWIDTH of type 2, an ASSOCIATION of policies, "
      "objects of vendors"): ["no constraint: {name}", "the cost of its path", "the bandwidth that it has", "a policy's association",

@@ -10,6 +10,7 @@ import time
 from checks import TOOLS
 from pcep.answers import drawn, long
 from pcep.beside import OPENED, SILENT, TO_NORTH, TO_SOUTH, Client, Run, begun, wait
+from pcep.excluding import drawn_risks, excluding, fed
 from pcep.lsps import figures, names_of_pccs, shared, wanted_again
 from pcep.named import named
 from pcep.played import PATH, SOUTH, request, rows
@@ -266,4 +267,4 @@ def rolled(program, checks, room):
 def pcep_runs(program, checks):
     with tempfile.TemporaryDirectory() as room:
         checks.parts_in(room, (sockets, keys, gone, full, busy, crowded, stateless, idle, shared, wanted_again, figures,
-                               names_of_pccs, rolled, long, drawn, named, storm), program, checks)
+                               names_of_pccs, rolled, long, drawn, named, excluding, drawn_risks, fed, storm), program, checks)

@@ -11,12 +11,14 @@ import tempfile
 from checks import TOP
 from pcep.connections import collected, crowded, deaf, heavy, in_slices, in_vain, moved, paced, places, reset, strange, unheard
 from pcep.delegated import delegated, followed, races
+from pcep.excluded import EXCLUDED, prefix, srlg, xro
 from pcep.initiated import initiated, looked_at, making, segments, updated
 from pcep.opening import SESSIONS
 from pcep.played import FREE, PATH, SOUTH, Front, Pcc, bandwidth, fars, hop, ip, lspa, metric, request, rows, told, told_one
 from pcep.raised import raised
 from pcep.refusing import downs, other_words, refusals, silences
 from pcep.reported import REPORTED, constraints, marked, mixed, owners, setups
+from pcep.shared_risks import RISKS
 from pcep.sources import journals
 
 from routed.pcep import wire
@@ -78,8 +80,10 @@ def mapping(checks, room):
             ("the objective MCP", PATH, [pack(21, struct.pack("!HH", 1, 0), must=True)], {}),
             ("the objective MLP", "PCErr 4/4", [pack(21, struct.pack("!HH", 2, 0), must=True)], {}),
             ("the objective MBP without P", PATH + " I [21]", [pack(21, struct.pack("!HH", 3, 0))], {}),
-            ("an XRO", "PCErr 3/1", [pack(17, struct.pack("!I", 0) + hop(2), must=True)], {}),
-            ("an XRO without P", PATH + " I [17]", [pack(17, struct.pack("!I", 0) + hop(2))], {}),
+            ("an XRO", by_south, [pack(17, struct.pack("!I", 0) + bytes([1, 8, 10, 1, 2, 2, 32, 0]), must=True)], {}),
+            ("an XRO without P", by_south, [pack(17, struct.pack("!I", 0) + bytes([1, 8, 10, 1, 2, 2, 32, 0]))], {}),
+            ("an XRO with the flag F", "PCErr 4/1", [pack(17, struct.pack("!I", 1) + hop(2), must=True)], {}),
+            ("an XRO with the flag F, without P", PATH + " I [17]", [pack(17, struct.pack("!I", 1) + hop(2))], {}),
             ("an unknown class", "PCErr 3/1", [pack(99, bytes(4), must=True)], {}),
             ("an unknown class without P", PATH + " I [99]", [pack(99, bytes(4))], {}),
             ("an unknown type", "PCErr 3/2", [pack(9, bytes(16), 9, True)], {}),
@@ -147,7 +151,7 @@ def malformed(checks, room):
     whole = [request(lspa(), bandwidth(1), metric(2, 500), pack(10, hop(3), must=True)),
              wire.message(10, pack(33, struct.pack("!II", 0, 1)),
                           pack(32, struct.pack("!I", 1 << 12 | 9) + tlv(17, b"a") + tlv(18, ip(1) + bytes(8) + ip(4))), pack(7, hop(2))),
-             wire.error(4, 4), wire.close(1)]
+             wire.error(4, 4), wire.close(1), request(xro(prefix("10.1.2.1"), prefix("10.1.3.0", 24, 1, True), srlg(7, True)))]
     count = 0
     for data in whole:
         for at in range(4, len(data)):
@@ -248,6 +252,11 @@ TABLE = {
     "LSPA": ["bandwidth at its setup priority", "bandwidth that isn't at its setup priority", "affinities that exclude",
              "affinities of which any", "affinities that are all there", "a holding priority and local protection"],
     "IRO of up to 7 IPv4 prefixes": ["an IRO", "an IRO of two prefixes", "an IRO of 7", "an IRO with L bits"],
+    "XRO of IPv4 prefixes with exclusion bit 0 and attribute 0 (interface) or 1 (node)": [
+        "an XRO", "an XRO without P", "an XRO of {name}, P {must:d}", "two XROs", "drawn XROs"],
+    "subobjects of an XRO with exclusion bit 1": ["should be excluded: {name}", "should be excluded: {name}: asks", "drawn XROs"],
+    "SRLG subobjects of an XRO, and IPv4 prefixes with attribute 2 (SRLG), with `--srlgs`": [
+        "SRLGs of {name}", "SRLGs of {name}: one row", "no answer has a link of a named SRLG"],
     "METRIC of type TE, as a bound": ["a TE bound that is kept", "a TE bound that isn't"],
     "METRIC of type SID depth (11), as a bound": ["a request of at most {most} SIDs"],
     "METRIC of type TE, to be optimized; OF 1": ["a TE metric to be optimized", "the objective MCP"],
@@ -260,24 +269,33 @@ TABLE = {
     "no connection to the server, a link of the route has no SID, or the SIDs or the journal aren't those of the server's run": [
         "mapping: no server", "without a server", "a link without a SID is no lack of a path", "a SID that is gone",
         "SIDs of the run {head.strip()!r}", "a journal {name}: a path by SIDs"],
+    ("an XRO names SRLGs, and the file of `--srlgs` can't be used, or the links of these SRLGs changed each time that the front "
+     "asked"): ["a file of SRLGs {name}: a request", "SRLGs that change at each ask"],
     ("a bound on the number of hops, another metric than TE, an objective function other than 1, an IRO of 8 hops or more or of other "
-     "subobjects"): [
+     "subobjects, an XRO with other subobjects or with an attribute above 2"): [
+        "an IPv6 prefix", "an unnumbered interface", "an AS", "attribute 3", "an XRO of a prefix, and of an AS behind it",
         "a hop bound", "a hop bound without P", "a bound on delay", "an IGP metric to be optimized", "the objective MLP",
         "the objective MBP without P", "an IRO of 8", "an IRO of 8 without P", "an IRO of an AS"],
     "IPv6 or P2MP END-POINTS, the bandwidth of the existing LSP (BANDWIDTH of type 2) without reoptimization": [
         "IPv6 ends", "P2MP ends", "the bandwidth of before", "the bandwidth of before without P"],
-    "SVEC, RRO without reoptimization": ["an SVEC", "an SVEC without P", "an RRO", "an RRO without P"],
-    "XRO and every other class, LSP in a session without the stateful capability": [
-        "an XRO", "an XRO without P", "an unknown class", "an unknown class without P", "an LSP object in a session without LSPs"],
+    "SVEC, RRO without reoptimization, an XRO with the flag F (for an LSP that has failed)": [
+        "an SVEC", "an SVEC without P", "an RRO", "an RRO without P", "an XRO with the flag F", "an XRO with the flag F, without P"],
+    ("an XRO if the server takes no `except` rows, an XRO that names SRLGs if `--srlgs` isn't given, every other class, LSP in a session "
+     "without the stateful capability"): [
+        "a server that takes no except rows: an XRO", "a server that takes no except rows: an XRO without P",
+        "an XRO of an SRLG without --srlgs", "an XRO of an interface's SRLGs without --srlgs", "a server without --except: an XRO",
+        "an unknown class", "an unknown class without P", "an LSP object in a session without LSPs"],
     "an unknown type of a known class": ["ends of an unknown type", "an unknown type", "an unknown type without P"],
     ("the flag of RP for a path in both directions, an IGP metric to be optimized, a bandwidth of 2^64 or more, a reoptimization of an LSP "
-     "that has bandwidth, END-POINTS with two equal addresses"): [
+     "that has bandwidth, END-POINTS with two equal addresses, an XRO that excludes more than 64 circuits and routers"): [
+        "an XRO that excludes more than 64", "SRLGs of 65 circuits", "an SRLG of 10,000 circuits",
         "both directions", "an IGP metric to be optimized, without P", "more bandwidth than a row has",
         "more bandwidth than a row has, without P", "infinite bandwidth without P", "a reoptimization of an LSP of bandwidth 1",
         "the same without P", "the same ends", "END-POINTS, both of one router"],
     "RP or END-POINTS comes without the P flag, or the request id is 0": ["an RP without P", "ends without P", "the request id 0"],
-    "an object that is too short, a float that is negative or not a number": [
-        "a short LSPA", "bandwidth that is no number", "a negative bandwidth", "a setup priority above 7"],
+    "an object that is too short, a subobject that is cut or has a wrong length, a float that is negative or not a number": [
+        "a short LSPA", "an IRO that is cut", "an XRO with {name}, P {must:d}", "bandwidth that is no number", "a negative bandwidth",
+        "a setup priority above 7"],
     "no RP, no RRO in a reoptimization of an LSP that has bandwidth, no END-POINTS": ["no RP", "the same without RRO", "no ends"],
     ("a report without LSP object or ERO, or the first report of an LSP without its name or, for RSVP-TE, without LSP identifiers"): [
         "a report with {name}", "no LSP", "no ERO", "no name", "no identifiers", "the first report of an LSP has its name"],
@@ -327,5 +345,5 @@ def pcep(_, checks):
     with tempfile.TemporaryDirectory() as room:
         checks.parts_in(room, (mapping, malformed, timers, deaf, reset, collected, paced, unheard, heavy, in_slices, in_vain, crowded,
                                places, moved, strange, delegated, followed, races, updated, initiated, looked_at, making, segments,
-                               *SESSIONS, refusals, other_words, silences, downs, constraints, mixed, setups, owners, marked, journals,
-                               raised, documented), checks)
+                               *SESSIONS, *EXCLUDED, *RISKS, refusals, other_words, silences, downs, constraints, mixed, setups, owners,
+                               marked, journals, raised, documented), checks)

@@ -119,8 +119,8 @@ def memory(program, checks):
     checks.true("a million open puts in 16 MB", 0 < mark < 16, f"{mark:.1f} MB")
     mark = megabytes(high_water, b"foo," * 250_000 + b"\n")
     checks.true("a row of a megabyte in 16 MB", 0 < mark < 16, f"{mark:.1f} MB")
-    # 3,000 sets of administrative groups, each asked for as often as grows a tree
-    rows = CIRCUIT + "".join(f"ask,7,1.1.1.1,2.2.2.2,0,1000,0x{2 * groups:x},0x0,0x0,\n" * 8 for groups in range(3000))
+    # 3,000 sets of administrative groups, each asked for as often as pays for a tree
+    rows = CIRCUIT + "".join(f"ask,7,1.1.1.1,2.2.2.2,0,1000,0x{2 * groups:x},0x0,0x0,\n" * 40 for groups in range(3000))
     none, one, many = (megabytes(own, rows.encode(), "--trees", most) for most in ("0", "1", "64"))
     checks.true("no tree, a megabyte of trees, and more", none < one + 0.5 < none + 2 < none + 8 < many,
                 f"{none:.1f}, {one:.1f} and {many:.1f} MB")

@@ -13,7 +13,7 @@ from collections import Counter
 from checks import TOP
 from program.refusal import COMPILER, Refuser, each
 from program.snapshots import snapshot_of
-from reference import runs
+from reference import excepts, runs
 from reference.formats import Network
 from reference.versions import Versions
 
@@ -118,25 +118,41 @@ class Live:
 
 
 class Audit:
-    """`audit` on NSFNET, of replies at the versions 0 to 7, one of which is altered, one said twice and one left out."""
+    """`audit` on NSFNET, of replies at the versions 0 to 7, one of which is altered, one said twice and one left out. With `questions` the
+    requests have two `except` rows, too, and the answer to one of them is right."""
 
-    def __init__(self, program, room):
+    def __init__(self, program, room, questions=False):
         updates, requests = text_of(UPDATES), text_of(REQUESTS)
-        versions = Versions(updates, requests.splitlines())
+        versions, networks = Versions(updates, requests.splitlines()), runs.publish(runs.whole_batches(updates))[0]
         lines = [versions.replies[at % len(versions.replies)][at] for at in range(len(versions.asks))]
-        replies = "".join(f"{line}\n" for line in [*lines[:3], lines[3].replace("again=no", "again=yes"), lines[0], *lines[4:-1],
-                                                   "version 4"])
-        path = os.path.join(room, "replies")
-        with open(path, "w", encoding="ascii") as file:
-            file.write(replies)
-        self.words = [program.path, "audit", "--journal", UPDATES, "--requests", REQUESTS, "--replies", path, "--explain"]
-        self.status, lines = runs.audit(updates, requests, replies)
+        lines = [*lines[:3], lines[3].replace("again=no", "again=yes"), lines[0], *lines[4:-1], "version 4"]
+        if questions:
+            for number, parts in ((900, "10.1.2.0/24i 10.1.3.0/24i"), (901, "203.0.113.5/32r")):
+                row = f"except,{number},{versions.asks[0].split(',', 2)[2]},{parts}"
+                requests += f"{row}\n"
+                lines.append(excepts.answer(networks[-1], len(networks) - 1, excepts.question(row.split(","))))
+            lines[-1] = lines[-1].replace("except", "ask")
+        paths = [os.path.join(room, f"{kind} {questions}".replace(" ", "-")) for kind in ("requests", "replies")]
+        replies = "".join(f"{line}\n" for line in lines)
+        for path, text in zip(paths, (requests, replies)):
+            with open(path, "w", encoding="ascii") as file:
+                file.write(text)
+        self.words = [program.path, "audit", *["--except"] * questions, "--journal", UPDATES, "--requests", paths[0], "--replies", paths[1],
+                      "--explain"]
+        self.status, lines = runs.audit(updates, requests, replies, questions)
         self.lines = "".join(f"{line}\n" for line in lines).encode()
 
     def run(self, refuser, number, flags):
         ran = refuser.run(self.words, flags[0], number, *flags[1:])
         whole = (ran.status, ran.out, ran.err) == (self.status, self.lines, b"")
         return ran, whole, whole or is_stopped(ran, flags)
+
+
+class Questions(Audit):
+    """The same with `except` rows."""
+
+    def __init__(self, program, room):
+        super().__init__(program, room, True)
 
 
 class Snapshot:
@@ -227,7 +243,9 @@ def refused(program, checks):
         print("refused calls: skipped, there is no C compiler")
         return
     refuser, tried, start = Refuser(), Counter(), time.monotonic()
-    for command in [Solve(program), Batch(program), Live(program), Audit(program, refuser.room.name), Snapshot(program), Serve(program)]:
+    room = refuser.room.name
+    for command in [Solve(program), Batch(program), Live(program), Audit(program, room), Questions(program, room), Snapshot(program),
+                    Serve(program)]:
         for flags in REFUSALS:
             def judge(number):
                 ran, is_whole, is_right = command.run(refuser, number, flags)

@@ -1,5 +1,5 @@
 -- What a request does to a client's state, once the client has read the count of published batches.
-use Rattle.std.proofs.Common.{◌≡◌, ℕ, List, refl, sym, ◌∙◌}
+use Rattle.std.proofs.Common.{◌≡◌, ℕ, List, length, refl, sym, ◌∙◌}
 use Rattle.cspf_model.specs.declared.request.Request.{Request}
 use Rattle.cspf_ero.specs.ReplyLine.{IsReply}
 use Rattle.cspf_publish.specs.Answers.{IsAnswerAfter}
@@ -11,7 +11,11 @@ use Rattle.cspf_publish.specs.declared.answer.Answer.{Answer}
 use Rattle.cspf_publish.specs.declared.errors.AskError.{AskError}
 use Rattle.cspf_publish.specs.declared.errors.AskError.TheVariants as ask_error
 use Rattle.cspf_model.specs.Outcome.{answer_of}
-use Rattle.cspf_client.specs.ClientRows.{ReadsCount, IsRequestAnswered, IsRequestUnanswered}
+use Rattle.cspf_model.specs.Changes.{database_after}
+use Rattle.cspf_model.specs.Database.{Database}
+use Rattle.cspf_questions.specs.QuestionLines.{IsQuestionReply}
+use Rattle.cspf_questions.specs.declared.question.Question.{Question}
+use Rattle.cspf_client.specs.ClientRows.{ReadsCount, IsQuestionAnswered, IsRequestAnswered, IsRequestUnanswered}
 use Rattle.cspf_client.specs.SessionStates.{SessionState}
 
 -- the state of a client with these parts
@@ -38,6 +42,11 @@ module _ (client place : ℕ) (a b c : KnownBatches) (old new : KnownSteps) (cou
     best = is.best;
     reply = rw (is.id, is.version) at reply;
   }
+
+  pub question_answered : (question : Question) (table : Database) (version : ℕ) (line : List ℕ) → table ≡ database_after c.batches → version ≡ length c.batches
+      → IsQuestionReply table version question line
+      → IsQuestionAnswered place question (session client a old refused) line (session client c new refused)
+  question_answered question table version line is named reply = record { reads = reads; reply = rw (is, named) at reply }
 
   -- if memory is refused for the line of the reply, the request isn't answered
   -- (`IsRequestUnanswered`)

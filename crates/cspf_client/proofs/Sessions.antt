@@ -5,6 +5,7 @@ use Rattle.cspf_publish.specs.JournalSteps.{KnownSteps}
 use Rattle.cspf_publish.specs.KnownBatches.{KnownBatches}
 use Rattle.cspf_client.specs.declared.client.Client.{Client}
 use Rattle.cspf_client.specs.declared.error.ClientError.TheVariants.{NoEntry}
+use Rattle.cspf_questions.specs.declared.kinds.QuestionKinds.{QuestionKinds}
 use Rattle.cspf_client.specs.ClientRuns.{IsClientRun}
 use Rattle.cspf_client.specs.ServingStates.{ServingState, IsReady}
 use Rattle.cspf_client.specs.SessionStates.{SessionState, HasGoneForward}
@@ -20,9 +21,9 @@ forward_again s t u f is =
 capped : (a b c d : ℕ) → a ≡ min b (2 ^ 64 - 1) → d ≡ min (a + c) (2 ^ 64 - 1) → d ≡ min (c + b) (2 ^ 64 - 1)
 capped a b c d is next = omega (arith, is, next)
 
-module _ {Q V : Type 0} (reopens : ReopensOf Q V) (bytes : Q → Option (List ℕ)) (contents : V → Option (List ℕ)) (first : ServingState Q V) where
+module _ {Q V : Type 0} (kinds : QuestionKinds) (reopens : ReopensOf Q V) (bytes : Q → Option (List ℕ)) (contents : V → Option (List ℕ)) (first : ServingState Q V) where
   -- before its first session a client has come to its first session
-  pub begun : IsReady first → first.refused_before ≡ 0 → HasComeTo reopens bytes contents first first
+  pub begun : IsReady first → first.refused_before ≡ 0 → HasComeTo kinds reopens bytes contents first first
   begun ready none =
       let streams : Client Q V = record { requests = ready.unread; replies = first.replies } in record {
         streams = streams;
@@ -31,19 +32,19 @@ module _ {Q V : Type 0} (reopens : ReopensOf Q V) (bytes : Q → Option (List �
         number = refl;
         requests = ready.held;
         replies = refl;
-        each = All-nil (IsSession bytes contents first.state.client);
+        each = All-nil (IsSession kinds bytes contents first.state.client);
         in_turn = refl;
         forward = HasGoneForward-self first.state;
         refused = none;
       }
 
-  module _ (now ran : ServingState Q V) (come : HasComeTo reopens bytes contents first now)
-      (run : IsClientRun bytes contents now ran) (forward : HasGoneForward now.state ran.state) (few : ran.state.refused < 2 ^ 64) (before : ran.refused_before ≡ now.refused_before) where
+  module _ (now ran : ServingState Q V) (come : HasComeTo kinds reopens bytes contents first now)
+      (run : IsClientRun kinds bytes contents now ran) (forward : HasGoneForward now.state ran.state) (few : ran.state.refused < 2 ^ 64) (before : ran.refused_before ≡ now.refused_before) where
     -- the session that has just ended
     abbrev ended : ClientSession Q V
     ended = record { streams = come.streams; before = now; after = ran }
 
-    is_session : IsSession bytes contents first.state.client ended
+    is_session : IsSession kinds bytes contents first.state.client ended
     is_session = record {
       ready = come.ready;
       number_is = come.number;
@@ -55,11 +56,11 @@ module _ {Q V : Type 0} (reopens : ReopensOf Q V) (bytes : Q → Option (List �
     }
 
     -- the client ends after this session
-    pub come_to_end : (last : ServingState Q V) → (ran.end ≡ Err NoEntry) ⊎ reopens ran.replies (Err ran.replies) → last ≡ ran → HasSessions reopens bytes contents first last
+    pub come_to_end : (last : ServingState Q V) → (ran.end ≡ Err NoEntry) ⊎ reopens ran.replies (Err ran.replies) → last ≡ ran → HasSessions kinds reopens bytes contents first last
     come_to_end last ends is = record {
       last = ended;
       earlier = come.earlier;
-      each = All-cons (IsSession bytes contents first.state.client) ended come.earlier is_session come.each;
+      each = All-cons (IsSession kinds bytes contents first.state.client) ended come.earlier is_session come.each;
       in_turn = come.in_turn;
       ends = ends;
       after = is;
@@ -68,7 +69,7 @@ module _ {Q V : Type 0} (reopens : ReopensOf Q V) (bytes : Q → Option (List �
 
     -- the next session begins after this session
     pub come_to_next : (next : ServingState Q V) (streams : Client Q V) → ¬ (ran.end ≡ Err NoEntry) → reopens ran.replies (Ok streams) → IsNextSession streams ran next
-        → HasComeTo reopens bytes contents first next
+        → HasComeTo kinds reopens bytes contents first next
     come_to_next next streams going opened is = record {
       streams = streams;
       earlier = ended ∷ come.earlier;
@@ -81,7 +82,7 @@ module _ {Q V : Type 0} (reopens : ReopensOf Q V) (bytes : Q → Option (List �
       number = ap (λ (s : SessionState). s.client) is.state ∙ (forward.client ∙ come.number);
       requests = is.requests;
       replies = is.replies;
-      each = All-cons (IsSession bytes contents first.state.client) ended come.earlier is_session come.each;
+      each = All-cons (IsSession kinds bytes contents first.state.client) ended come.earlier is_session come.each;
       in_turn = (
         record {
           going = going;

@@ -1,5 +1,5 @@
 -- The answers to the rows of a client.
-use Rattle.std.specs.Prelude.{◌≡◌, ℕ, ◌+◌, ◌≤◌, List, length, Result, Ok, Err}
+use Rattle.std.specs.Prelude.{◌≡◌, ℕ, ◌+◌, ◌≤◌, ◌⊎◌, List, length, Result, Ok, Err}
 use Rattle.cspf_model.specs.declared.request.Request.{Request}
 use Rattle.cspf_model.specs.Changes.{database_after}
 use Rattle.cspf_model.specs.Best.{Answer, IsBestAnswer}
@@ -9,7 +9,13 @@ use Rattle.cspf_publish.specs.KnownBatches.{KnownBatches, AreFirstOf}
 use Rattle.cspf_publish.specs.Readings.{CatchesUp}
 use Rattle.cspf_publish.specs.declared.errors.AskError.{AskError}
 use Rattle.cspf_publish.specs.declared.errors.AskError.TheVariants as ask_error
-use Rattle.cspf_rows.specs.Rows.{row_of}
+use Rattle.cspf_questions.specs.QuestionRows.{read_fields}
+use Rattle.cspf_questions.specs.QuestionLines.{IsQuestionReply, refused_question_line}
+use Rattle.cspf_questions.specs.declared.error.QuestionError.{QuestionError}
+use Rattle.cspf_questions.specs.declared.kinds.QuestionKinds.{QuestionKinds}
+use Rattle.cspf_questions.specs.declared.question.Question.{Question}
+use Rattle.cspf_questions.specs.declared.reading.ReadFields.{ReadFields}
+use Rattle.cspf_questions.specs.declared.reading.ReadFields.TheVariants as reading
 use Rattle.cspf_rows.specs.declared.row.Row.{Row}
 use Rattle.cspf_rows.specs.declared.row.Row.TheVariants as row
 use Rattle.cspf_rows.specs.declared.row_error.RowError.{RowError}
@@ -62,10 +68,30 @@ IsClientRowAnswered place s (Err why) line t = IsRefusedRow place why s line t
 IsClientRowAnswered place s (Ok (row.Ask q)) line t = IsRequestAnswered place q s line t
 IsClientRowAnswered place s (Ok other) line t = IsRefusedRow place error.Kind s line t
 
--- the row with these fields is answered with this line; `s` and `t` are the states before and after
--- the row
-abbrev pub IsClientAnswered : ℕ → SessionState → List (List ℕ) → List ℕ → SessionState → Type 0
-IsClientAnswered place s fields line t = IsClientRowAnswered place s (row_of fields) line t
+-- The question of row `place` is answered in the database of the batches that the client then knows.
+-- The number of these batches is the version of the line. As before a reply to a request, the client
+-- has read the count of published batches, and then knows at least as many batches (`ReadsCount`).
+pub record IsQuestionAnswered (place : ℕ) (question : Question) (s : SessionState) (line : List ℕ) (t : SessionState) : Type 0 where
+  pub reads : ReadsCount place s t
+  pub reply : IsQuestionReply (database_after t.known.batches) (length t.known.batches) question line
+
+-- The row of a question is refused, and its line has the words for the error `why`. In the client's
+-- state, only the count of refused rows changes.
+pub record IsRefusedQuestion (place : ℕ) (why : QuestionError) (s : SessionState) (line : List ℕ) (t : SessionState) : Type 0 where
+  pub written : line ≡ refused_question_line place why
+  pub after : t ≡ record s { refused = s.refused + 1 }
+
+-- row `place`, counted from 1, is answered with this line, as the question, the refused question or
+-- the row of a database that it was read as
+abbrev pub IsReadAnswered : ℕ → SessionState → ReadFields → List ℕ → SessionState → Type 0
+IsReadAnswered place s (reading.Row r) line t = IsClientRowAnswered place s r line t
+IsReadAnswered place s (reading.Question question) line t = IsQuestionAnswered place question s line t
+IsReadAnswered place s (reading.Refused why) line t = IsRefusedQuestion place why s line t
+
+-- the row with these fields is answered with this line, if questions of these kinds are answered; `s`
+-- and `t` are the states before and after the row
+abbrev pub IsClientAnswered : QuestionKinds → ℕ → SessionState → List (List ℕ) → List ℕ → SessionState → Type 0
+IsClientAnswered kinds place s fields line t = IsReadAnswered place s (read_fields kinds fields) line t
 
 -- Memory is refused for the line that refuses a row. The state is unchanged.
 abbrev pub IsRefusalMissing : AskError → SessionState → SessionState → Type 0
@@ -83,6 +109,14 @@ abbrev pub IsClientRowUnanswered : AskError → ℕ → SessionState → Result 
 IsClientRowUnanswered fault place s (Ok (row.Ask q)) t = IsRequestUnanswered place fault s t
 IsClientRowUnanswered fault place s other t = IsRefusalMissing fault s t
 
--- the row with these fields isn't answered because of this fault; `t` is the state afterwards
-abbrev pub IsClientUnanswered : AskError → FailsOf SessionState
-IsClientUnanswered fault place s fields t = IsClientRowUnanswered fault place s (row_of fields) t
+-- the row that was read in this way isn't answered because of this fault; `t` is the state afterwards
+abbrev pub IsReadUnanswered : AskError → ℕ → SessionState → ReadFields → SessionState → Type 0
+IsReadUnanswered fault place s (reading.Row r) t = IsClientRowUnanswered fault place s r t
+IsReadUnanswered fault place s (reading.Question question) t = IsRequestUnanswered place fault s t
+IsReadUnanswered fault place s (reading.Refused why) t = IsRefusalMissing fault s t
+
+-- The row with these fields isn't answered because of this fault, if questions of these kinds are
+-- answered. `t` is the state afterwards. Memory may be refused before the row is read.
+abbrev pub IsClientUnanswered : QuestionKinds → AskError → FailsOf SessionState
+IsClientUnanswered kinds fault place s fields t =
+    IsReadUnanswered fault place s (read_fields kinds fields) t ⊎ IsRefusalMissing fault s t

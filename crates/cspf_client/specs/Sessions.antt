@@ -1,6 +1,7 @@
 -- The sessions of a client: a client has one session after the other, and each session has its own
 -- streams.
 use Rattle.std.specs.Prelude.{◌≡◌, ℕ, ◌+◌, ◌-◌, ◌<◌, ◌^◌, ◌⊎◌, All, List, [], ◌∷◌, min, Option, Some, Result, Ok, Err, MatchResult}
+use Rattle.cspf_questions.specs.declared.kinds.QuestionKinds.{QuestionKinds}
 use Rattle.cspf_client.specs.ClientRuns.{IsClientRun}
 use Rattle.cspf_client.specs.ServingStates.{ServingState, IsReady}
 use Rattle.cspf_client.specs.SessionStates.{HasGoneForward}
@@ -16,12 +17,12 @@ pub record ClientSession (Q V : Type 0) : Type 0 where
 
 -- The client with this number was answered from the session's first row on. `few` says only that
 -- the count of refused rows is a number of 64 bits.
-pub record IsSession {Q V : Type 0} (bytes : Q → Option (List ℕ)) (contents : V → Option (List ℕ)) (number : ℕ) (s : ClientSession Q V) : Type 0 where
+pub record IsSession {Q V : Type 0} (kinds : QuestionKinds) (bytes : Q → Option (List ℕ)) (contents : V → Option (List ℕ)) (number : ℕ) (s : ClientSession Q V) : Type 0 where
   pub ready : IsReady s.before
   pub number_is : s.before.state.client ≡ number
   pub requests : s.before.requests ≡ Some s.streams.requests
   pub empty : s.before.replies ≡ s.streams.replies
-  pub run : IsClientRun bytes contents s.before s.after
+  pub run : IsClientRun kinds bytes contents s.before s.after
   pub forward : HasGoneForward s.before.state s.after.state
   pub few : s.after.state.refused < 2 ^ 64
 
@@ -60,24 +61,24 @@ refused_in (s ∷ sessions) = s.after.state.refused + refused_in sessions
 -- A client was answered in one session after the other, from the first row of its first session on.
 -- `old` is the client before this row, and `new` is the client after its last session. `last` is
 -- the last session, and `earlier` are the sessions before it, the latest first.
-pub record HasSessions {Q V : Type 0} (reopens : ReopensOf Q V) (bytes : Q → Option (List ℕ)) (contents : V → Option (List ℕ)) (old new : ServingState Q V) : Type 0 where
+pub record HasSessions {Q V : Type 0} (kinds : QuestionKinds) (reopens : ReopensOf Q V) (bytes : Q → Option (List ℕ)) (contents : V → Option (List ℕ)) (old new : ServingState Q V) : Type 0 where
   pub last : ClientSession Q V
   pub earlier : List (ClientSession Q V)
-  pub each : All (IsSession bytes contents old.state.client) (last ∷ earlier)
+  pub each : All (IsSession kinds bytes contents old.state.client) (last ∷ earlier)
   pub in_turn : CameBefore reopens old last.streams last.before earlier
   pub ends : IsLast reopens last
   pub after : new ≡ last.after
   pub refused : new.refused_before ≡ min (refused_in earlier) (2 ^ 64 - 1)
 
 -- Private: the client `now` has read no row of its session yet. The sessions `earlier` came before.
-pub record HasComeTo {Q V : Type 0} (reopens : ReopensOf Q V) (bytes : Q → Option (List ℕ)) (contents : V → Option (List ℕ)) (first now : ServingState Q V) : Type 0 where
+pub record HasComeTo {Q V : Type 0} (kinds : QuestionKinds) (reopens : ReopensOf Q V) (bytes : Q → Option (List ℕ)) (contents : V → Option (List ℕ)) (first now : ServingState Q V) : Type 0 where
   pub streams : Client Q V
   pub earlier : List (ClientSession Q V)
   pub ready : IsReady now
   pub number : now.state.client ≡ first.state.client
   pub requests : now.requests ≡ Some streams.requests
   pub replies : now.replies ≡ streams.replies
-  pub each : All (IsSession bytes contents first.state.client) earlier
+  pub each : All (IsSession kinds bytes contents first.state.client) earlier
   pub in_turn : CameBefore reopens first streams now earlier
   pub forward : HasGoneForward first.state now.state
   pub refused : now.refused_before ≡ min (refused_in earlier) (2 ^ 64 - 1)

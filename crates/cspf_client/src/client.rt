@@ -15,13 +15,14 @@ use crate::entrance::{Entrance, NotedRequests};
 use crate::session::Session;
 use crate::{ClientError, EndOfRequests, Permits, Reopens, Replies};
 use cspf_publish::{Asker, Known, SeenSteps, Told};
+use cspf_questions::Kinds;
 use cspf_rows::open_records;
 use cspf_stream::answer_rows;
 use csv::Reader;
 use std::alloc::Global;
 use std::cell::Cell;
 use std::io::Read;
-use std::marker::Model;
+use std::marker::{Model, PhantomData};
 use std::sync::Wait;
 use std::sync::ledger::Ledger;
 
@@ -81,8 +82,8 @@ pub struct ServedClient<V> {
 }
 
 /// Answers all rows that the reader still has.
-fn answer_all<Q: Read + Drop, V: Replies, R: Wait, L: Ledger>(
-    entrance: &Entrance<'_, R, L>,
+fn answer_all<Q: Read + Drop, V: Replies, R: Wait, L: Ledger, K: Kinds>(
+    entrance: &Entrance<'_, R, L, K>,
     alloc: Global,
     requests: &mut Reader<Q>,
     replies: &mut V,
@@ -90,9 +91,9 @@ fn answer_all<Q: Read + Drop, V: Replies, R: Wait, L: Ledger>(
 ) -> Result<(), ClientError>
     requires plain { IsPlain requests.old }
     requires state { session.old.refused < 1 }
-    ensures whole { OnOk result (AreAllAnswered IsClientAnswered (rows_left Q.remaining requests.old)
+    ensures whole { OnOk result (AreAllAnswered (IsClientAnswered K.kinds) (rows_left Q.remaining requests.old)
         session.old session.new (V.contents replies.old) (V.contents replies.new)) }
-    ensures stopped { IfErr result (λ why. IsClientStopped why (rows_left Q.remaining requests.old)
+    ensures stopped { IfErr result (λ why. IsClientStopped K.kinds why (rows_left Q.remaining requests.old)
         session.old session.new (V.contents replies.old) (V.contents replies.new)) }
 {
     match answer_rows(entrance, alloc, requests, replies, session) {
@@ -127,9 +128,13 @@ impl<Q: Read + Drop, V: Replies> ServingClient<Q, V> {
     /// The client waits for its own streams. If it sends requests ahead, it waits for a permit before
     /// each search, and has no permit while it reads or writes. At the end it drops the reader of the
     /// requests, and then calls `end` of the replies' writer.
-    pub fn run<'a, R: Wait, L: Ledger>(&mut self, alloc: Global, permits: &'a Permits<'a, R, L>)
+    pub fn run<'a, R: Wait, L: Ledger, K: Kinds>(
+        &mut self,
+        alloc: Global,
+        permits: &'a Permits<'a, R, L>,
+    )
         requires { IsReady self.old }
-        ensures run { IsClientRun Q.remaining V.contents self.old self.new }
+        ensures run { IsClientRun K.kinds Q.remaining V.contents self.old self.new }
         ensures forward { HasGoneForward self.old.state self.new.state }
         ensures closed { self.new.requests ≡ None }
         // The run calls `end` of the replies' writer after the last line is written.
@@ -143,6 +148,7 @@ impl<Q: Read + Drop, V: Replies> ServingClient<Q, V> {
         let entrance = Entrance {
             permits,
             was_read: Cell::new(false),
+            kinds: PhantomData::<K>,
         };
         let noted = NotedRequests {
             requests,
@@ -230,20 +236,20 @@ impl<Q: Read + Drop, V: Reopens<Q>> ServingClient<Q, V> {
     /// After a session, `reopen` of the replies' writer returns the streams of the next session, in
     /// which the client knows the batches that it knew before. After the last session, and after a
     /// session in which the client couldn't enter the published replica, returns the client.
-    pub fn serve<'a, R: Wait, L: Ledger>(
+    pub fn serve<'a, R: Wait, L: Ledger, K: Kinds>(
         self,
         alloc: Global,
         permits: &'a Permits<'a, R, L>,
     ) -> ServingClient<Q, V>
         requires ready { IsReady self }
         requires first { self.refused_before ≡ 0 }
-        ensures sessions { HasSessions V.reopens Q.remaining V.contents self result }
+        ensures sessions { HasSessions K.kinds V.reopens Q.remaining V.contents self result }
         ensures forward { HasGoneForward self.state result.state }
         ensures ended { V.has_ended result.replies }
     {
         let mut client = self;
         for _ in permits.handle().forever() {
-            client.run(alloc, permits);
+            client.run::<R, L, K>(alloc, permits);
             match client.reopened() {
                 Ok(next) => client = next,
                 Err(last) => return last,

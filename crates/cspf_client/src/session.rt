@@ -6,12 +6,17 @@ ghost use Rattle.cspf_ero.specs.ReplyLine.{IsReply};
 ghost use Rattle.cspf_model.specs.Outcome.{answer_of};
 ghost use Rattle.cspf_publish.specs.AskerStates.{known_of};
 ghost use Rattle.cspf_publish.specs.KnownBatches.{AreFirstOf};
-ghost use Rattle.cspf_client.specs.ClientRows.{IsClientRowAnswered, IsClientRowUnanswered, IsRefusedRow, IsRefusalMissing, IsRequestAnswered, IsRequestUnanswered};
+ghost use Rattle.cspf_client.specs.ClientRows.{IsClientRowAnswered, IsClientRowUnanswered, IsQuestionAnswered, IsReadAnswered, IsReadUnanswered, IsRefusedQuestion, IsRefusedRow, IsRefusalMissing, IsRequestAnswered, IsRequestUnanswered};
+ghost use Rattle.cspf_questions.specs.QuestionLines.{IsQuestionReply};
+ghost use Rattle.cspf_questions.specs.QuestionRows.{read_fields};
+ghost use Rattle.csv.specs.Records.{fields_of};
 
 use crate::entrance::Entrance;
+use cspf_db::Table;
 use cspf_ero::reply_line;
 use cspf_model::Request;
 use cspf_publish::{Answer, AskError, Asker, Known, RowOfReader, SeenSteps, Told};
+use cspf_questions::{Kinds, Question, QuestionError, ReadFields, refused_question};
 use cspf_rows::{Row, RowError};
 use cspf_stream::{Answering, refused_row};
 use csv::ByteRecord;
@@ -58,6 +63,27 @@ fn line_of(alloc: Global, answer: Answer) -> Result<Vec<u8>, AskError>
     ensures memory { IfErr result (λ why. why ≡ AskError.Memory) }
 {
     Ok(reply_line(alloc, answer.id, answer.version, &answer.outcome)?)
+}
+
+/// Reads a record as a question of the kinds `K`, or as a row of a database.
+fn read_fields<K: Kinds>(alloc: Global, fields: &ByteRecord) -> Result<ReadFields, AskError>
+    ensures read { IfOk result (λ read. read ≡ read_fields K.kinds (fields_of fields.now)) }
+    ensures memory { IfErr result (λ why. why ≡ AskError.Memory) }
+{
+    Ok(ReadFields::of(alloc, K::value(), fields)?)
+}
+
+/// The line that answers a question in the table's database, whose version is `version`.
+fn question_line(
+    alloc: Global,
+    question: &Question,
+    table: Table,
+    version: u32,
+) -> Result<Vec<u8>, AskError>
+    ensures line { IfOk result (λ line. IsQuestionReply table version question.now line.items) }
+    ensures memory { IfErr result (λ why. why ≡ AskError.Memory) }
+{
+    Ok(question.reply(alloc, table, version)?)
 }
 
 impl Session {
@@ -146,11 +172,35 @@ impl Session {
         line_of(alloc, answer)
     }
 
+    /// As `ask`, but answers a question, from a copy of the published table.
+    fn question(
+        &mut self,
+        alloc: Global,
+        place: u64,
+        question: &Question,
+    ) -> Result<Vec<u8>, AskError>
+        ensures answered { IfOk result (λ line.
+            IsQuestionAnswered place question.now self.old line.items self.new) }
+        ensures failed { IfErr result (λ why. IsRequestUnanswered place why self.old self.new) }
+        ensures refused { self.new.refused ≡ self.old.refused }
+    {
+        let row = RowOfReader {
+            reader: self.client,
+            place,
+        };
+        let _read = self.asker.catch_up(&mut self.steps, row);
+        let table = match self.asker.table(alloc) {
+            Ok(table) => table,
+            Err(why) => return Err(why),
+        };
+        question_line(alloc, question, table, self.asker.seen())
+    }
+
     /// As `ask`. If the row was already there before the client's last line was written, first waits
     /// for a permit, and gives it back before the line is returned.
-    fn ask_in_turn<R: Wait, L: Ledger>(
+    fn ask_in_turn<R: Wait, L: Ledger, K>(
         &mut self,
-        entrance: &Entrance<'_, R, L>,
+        entrance: &Entrance<'_, R, L, K>,
         alloc: Global,
         place: u64,
         request: &Request,
@@ -169,6 +219,46 @@ impl Session {
         line
     }
 
+    /// As `ask_in_turn`, but answers a question.
+    fn question_in_turn<R: Wait, L: Ledger, K>(
+        &mut self,
+        entrance: &Entrance<'_, R, L, K>,
+        alloc: Global,
+        place: u64,
+        question: &Question,
+    ) -> Result<Vec<u8>, AskError>
+        ensures answered { IfOk result (λ line.
+            IsQuestionAnswered place question.now self.old line.items self.new) }
+        ensures failed { IfErr result (λ why. IsRequestUnanswered place why self.old self.new) }
+        ensures refused { self.new.refused ≡ self.old.refused }
+    {
+        if entrance.was_read.replace(false) {
+            return self.question(alloc, place, question);
+        }
+        let permit = entrance.permits.take();
+        let line = self.question(alloc, place, question);
+        entrance.permits.give_back(permit);
+        line
+    }
+
+    /// Refuses row `place`, the row of a question, and returns the line of the refusal.
+    fn refuse_question(
+        &mut self,
+        alloc: Global,
+        place: u64,
+        why: QuestionError,
+    ) -> Result<Vec<u8>, AskError>
+        requires { self.old.refused < place }
+        ensures answered { IfOk result (λ line.
+            IsRefusedQuestion place why self.old line.items self.new) }
+        ensures failed { IfErr result (λ fault. IsRefusalMissing fault self.old self.new) }
+        ensures refused { self.new.refused ≤ self.old.refused + 1 }
+    {
+        let line = refused_question(alloc, place, why)?;
+        self.refused = self.refused + 1;
+        Ok(line)
+    }
+
     /// Refuses row `place`, and returns the line of the refusal.
     fn refuse(&mut self, alloc: Global, place: u64, why: RowError) -> Result<Vec<u8>, AskError>
         requires { self.old.refused < place }
@@ -182,10 +272,55 @@ impl Session {
         Ok(line)
     }
 
-    /// Answers row `place`, whose fields were read as `row`.
-    fn answer_read<R: Wait, L: Ledger>(
+    /// Answers row `place`, which was read in this way.
+    fn answer_fields<R: Wait, L: Ledger, K>(
         &mut self,
-        entrance: &Entrance<'_, R, L>,
+        entrance: &Entrance<'_, R, L, K>,
+        alloc: Global,
+        place: u64,
+        read: &ReadFields,
+    ) -> Result<Vec<u8>, AskError>
+        requires { self.old.refused < place }
+        ensures answered { IfOk result (λ line.
+            IsReadAnswered place self.old read.now line.items self.new) }
+        ensures failed { IfErr result (λ fault.
+            IsReadUnanswered fault place self.old read.now self.new) }
+        ensures refused { self.new.refused ≤ self.old.refused + 1 }
+    {
+        match read {
+            ReadFields::Row(row) => self.answer_row(entrance, alloc, place, *row),
+            ReadFields::Question(question) => {
+                self.question_in_turn(entrance, alloc, place, question)
+            }
+            ReadFields::Refused(why) => self.refuse_question(alloc, place, *why),
+        }
+    }
+
+    /// Answers row `place`, a row of a database or a record that is no such row.
+    fn answer_row<R: Wait, L: Ledger, K>(
+        &mut self,
+        entrance: &Entrance<'_, R, L, K>,
+        alloc: Global,
+        place: u64,
+        row: Result<Row, RowError>,
+    ) -> Result<Vec<u8>, AskError>
+        requires { self.old.refused < place }
+        ensures answered { IfOk result (λ line.
+            IsClientRowAnswered place self.old row line.items self.new) }
+        ensures failed { IfErr result (λ fault.
+            IsClientRowUnanswered fault place self.old row self.new) }
+        ensures refused { self.new.refused ≤ self.old.refused + 1 }
+    {
+        match row {
+            Ok(row) => self.answer_read(entrance, alloc, place, &row),
+            Err(why) => self.refuse(alloc, place, why),
+        }
+    }
+
+    /// Answers row `place`, whose fields were read as `row`.
+    fn answer_read<R: Wait, L: Ledger, K>(
+        &mut self,
+        entrance: &Entrance<'_, R, L, K>,
         alloc: Global,
         place: u64,
         row: &Row,
@@ -207,28 +342,29 @@ impl Session {
     }
 }
 
-impl<'a, R: Wait, L: Ledger> Answering<Entrance<'a, R, L>> for Session {
+impl<'a, R: Wait, L: Ledger, K: Kinds> Answering<Entrance<'a, R, L, K>> for Session {
     type Fault = AskError;
 
     ghost use Rattle.std.specs.Prelude.{◌<◌};
     ghost use Rattle.cspf_client.specs.ClientRows.{IsClientAnswered, IsClientUnanswered};
 
-    ghost answers = { IsClientAnswered };
+    ghost answers = { IsClientAnswered K.kinds };
 
-    ghost fails = { IsClientUnanswered };
+    ghost fails = { IsClientUnanswered K.kinds };
 
     ghost may_stand = { λ place s. s.refused < place };
 
     fn answer(
         &mut self,
-        entrance: &Entrance<'a, R, L>,
+        entrance: &Entrance<'a, R, L, K>,
         alloc: Global,
         place: u64,
         fields: &ByteRecord,
     ) -> Result<Vec<u8>, AskError> {
-        match Row::read(fields) {
-            Ok(row) => self.answer_read(entrance, alloc, place, &row),
-            Err(why) => self.refuse(alloc, place, why),
-        }
+        let read = match read_fields::<K>(alloc, fields) {
+            Ok(read) => read,
+            Err(why) => return Err(why),
+        };
+        self.answer_fields(entrance, alloc, place, &read)
     }
 }

@@ -32,7 +32,7 @@ use cspf_columns::reverses::reverse_index;
 use cspf_columns::routers::search;
 use cspf_columns::row_changes::change_columns;
 use cspf_columns::rows::{any_within, index_of, rows_from};
-use cspf_columns::{Columns, NO_LINK, Scratch};
+use cspf_columns::{Columns, NO_LINK, Scratch, with_room};
 use cspf_model::{Batch, Link, MOST_ROUTERS, Refusal};
 use marks::{change_marks, is_marked};
 pub use plan::Plan;
@@ -42,7 +42,7 @@ use std::marker::Model;
 use transits::list_transits;
 
 /// A traffic engineering database of at most 16,384 links, 1,024 routers, and 1,024 marks. A mark
-/// says that a router has no transit. Only `new` allocates memory.
+/// says that a router has no transit. Only `new` and `try_clone` allocate memory.
 #[derive(Debug, Drop)]
 pub struct Table {
     columns: Columns,
@@ -77,6 +77,19 @@ impl Table {
             columns: Columns::new(alloc)?,
             marks: Vec::with_capacity(alloc, ROOM_FOR_MARKS)?,
             transits: Vec::with_capacity(alloc, MOST_ROUTERS)?,
+            scratch: Scratch::new(alloc)?,
+        })
+    }
+
+    /// A table with the same database. It can absorb further batches, which don't change this table.
+    /// The copy allocates as much memory as `new`.
+    pub fn try_clone(&self, alloc: Global) -> Result<Table, AllocError>
+        ensures { IfOk result (λ copy. copy ≡ self.now) }
+    {
+        Ok(Table {
+            columns: self.columns.try_clone(alloc)?,
+            marks: with_room(alloc, &self.marks, ROOM_FOR_MARKS)?,
+            transits: with_room(alloc, &self.transits, MOST_ROUTERS)?,
             scratch: Scratch::new(alloc)?,
         })
     }

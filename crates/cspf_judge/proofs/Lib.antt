@@ -9,6 +9,8 @@ pub mod SnapshotMade
 pub mod RisingLists
 pub mod OneSnapshot
 pub mod Lookups
+pub mod OneQuestionLine
+pub mod ExceptHeads
 pub mod ReplyComparison
 pub mod LineCuts
 pub mod BatchSteps

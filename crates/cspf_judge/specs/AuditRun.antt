@@ -2,16 +2,19 @@
 use Rattle.std.specs.Prelude.{◌≡◌, ℕ, ◌⊎◌, ◌++◌, ◌==◌, if◌then◌else◌, List, length, codes, Option, IfSome}
 use Rattle.std.specs.Fmt.{decimal}
 use Rattle.std.specs.List.{flat_map}
-use Rattle.cspf_rows.specs.Records.{rows_of}
+use Rattle.cspf_rows.specs.Records.{rows_of, Records}
 use Rattle.cspf_judge.specs.FaultWords.{fault_words}
 use Rattle.cspf_judge.specs.AuditErrors.{IsAuditOf, IsAuditError}
+use Rattle.cspf_judge.specs.QuestionAudits.{IsQuestionAuditOf, IsQuestionAuditError}
+use Rattle.cspf_judge.specs.declared.audits.question_audit_error.QuestionAuditError.{QuestionAuditError}
+use Rattle.cspf_judge.specs.declared.audits.question_audit_error.QuestionAuditError.TheVariants as question_error
 use Rattle.cspf_judge.specs.declared.audits.audit_error.AuditError.{AuditError}
 use Rattle.cspf_judge.specs.declared.audits.audit_error.AuditError.TheVariants as error
 use Rattle.cspf_judge.specs.declared.audits.faults.Audit.{Audit}
 use Rattle.cspf_judge.specs.declared.audits.faults.AuditFault.{AuditFault}
 use Rattle.cspf_stream.specs.declared.batch_refusal.BatchRefusal.TheVariants as refusal
 use Rattle.cspf_stream.specs.Lines.{refused_batch_line, too_many_line}
-use Rattle.cspf_judge.specs.Inputs.{torn_line, IsFaultLine}
+use Rattle.cspf_judge.specs.Inputs.{torn_line, refused_except_line, IsFaultLine}
 
 -- the line of a fault
 abbrev pub fault_line : AuditFault → List ℕ
@@ -44,10 +47,27 @@ IsAuditErrorLine (error.Batch number why) line = line ≡ refused_batch_line num
 IsAuditErrorLine (error.Requests why) line = IsFaultLine why line
 IsAuditErrorLine (error.SameId row) line = line ≡ same_id_line row
 
--- The lines are the lines of the audit, or one line that refuses the streams.
-abbrev pub IsAuditRun : Option (List ℕ) → Option (List ℕ) → Option (List ℕ) → List ℕ → ℕ → Type 0
-IsAuditRun journal requests replies lines status =
+-- The line that refuses streams in which rows also ask questions.
+abbrev pub IsQuestionAuditErrorLine : QuestionAuditError → List ℕ → Type 0
+IsQuestionAuditErrorLine (question_error.Audit why) line = IsAuditErrorLine why line
+IsQuestionAuditErrorLine (question_error.Except row fault) line = line ≡ refused_except_line row fault
+
+-- The lines are the lines of the audit, or one line that refuses the streams. `is_audit` says what the
+-- audit of three streams is. `is_line` gives the line of an error, and `is_error` says which error the
+-- streams have.
+abbrev pub IsAuditRunBy : {E : Type 0} → (Records → Records → List ℕ → Audit → Type 0) → (E → List ℕ → Type 0) → (Option (List ℕ) → Option (List ℕ) → Option (List ℕ) → E → Type 0)
+    → Option (List ℕ) → Option (List ℕ) → Option (List ℕ) → List ℕ → ℕ → Type 0
+IsAuditRunBy {E} is_audit is_line is_error journal requests replies lines status =
     ((audit : Audit) × (lines ≡ audit_lines audit) × (status ≡ audit_status audit)
     × IfSome journal (λ kept. IfSome requests (λ asked. IfSome replies (λ said.
-    IsAuditOf (rows_of kept) (rows_of asked) said audit))))
-    ⊎ ((why : AuditError) × IsAuditErrorLine why lines × (status ≡ 2) × IsAuditError journal requests replies why)
+    is_audit (rows_of kept) (rows_of asked) said audit))))
+    ⊎ ((why : E) × is_line why lines × (status ≡ 2) × is_error journal requests replies why)
+
+-- The lines are the lines of the audit, or one line that refuses the streams.
+abbrev pub IsAuditRun : Option (List ℕ) → Option (List ℕ) → Option (List ℕ) → List ℕ → ℕ → Type 0
+IsAuditRun journal requests replies lines status = IsAuditRunBy IsAuditOf IsAuditErrorLine IsAuditError journal requests replies lines status
+
+-- The lines are the lines of the audit of rows that also ask questions, or one line that refuses the
+-- streams.
+abbrev pub IsQuestionAuditRun : Option (List ℕ) → Option (List ℕ) → Option (List ℕ) → List ℕ → ℕ → Type 0
+IsQuestionAuditRun journal requests replies lines status = IsAuditRunBy IsQuestionAuditOf IsQuestionAuditErrorLine IsQuestionAuditError journal requests replies lines status

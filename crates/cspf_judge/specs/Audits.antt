@@ -8,7 +8,8 @@ use Rattle.cspf_judge.specs.declared.audits.faults.AuditFault.{AuditFault}
 use Rattle.cspf_judge.specs.declared.audits.faults.AuditFault.TheVariants as fault
 use Rattle.cspf_judge.specs.declared.audits.finding.Finding.{Finding}
 use Rattle.cspf_judge.specs.declared.audits.finding.Finding.TheVariants as finding
-use Rattle.cspf_judge.specs.Findings.{IsNamed, AreFindings}
+use Rattle.cspf_judge.specs.Asks.{AskSpec}
+use Rattle.cspf_judge.specs.Findings.{request_spec, IsNamedBy, AreFindingsBy}
 
 -- `place` is the number of a line, counted from 1. The result is the fault of this line, or `None`
 -- if its finding isn't a fault.
@@ -46,22 +47,34 @@ is_good finding.Altered = false
 abbrev pub good_count : List Finding → ℕ
 good_count findings = count_by is_good findings
 
+module _ {A : Type 0} (spec : AskSpec A) where
+  -- `faults` has a fault `Unanswered` for each row whose id is in none of the lines, in the order of
+  -- the rows
+  abbrev pub AreUnansweredBy : List (List ℕ) → List A → List AuditFault → Type 0
+  AreUnansweredBy lines [] faults = faults ≡ []
+  AreUnansweredBy lines (q ∷ rows) faults =
+      (IsNamedBy spec lines (spec.id q) × AreUnansweredBy lines rows faults)
+      ⊎ ((¬ IsNamedBy spec lines (spec.id q))
+      × ((more : List AuditFault) × (faults ≡ fault.Unanswered (spec.id q) ∷ more) × AreUnansweredBy lines rows more))
+
+  -- The audit of the replies' lines, given a journal's batches and the rows that ask. The list of
+  -- faults begins with the faults of lines, in the order of the lines. A fault for each row whose id
+  -- is in no line follows. The audit also counts the good lines.
+  pub record IsAuditBy (batches : List NumberedChanges) (rows : List A) (lines : List (List ℕ)) (audit : Audit) : Type 0 where
+    pub findings : List Finding
+    pub unanswered : List AuditFault
+    pub found : AreFindingsBy spec batches rows lines findings
+    pub left : AreUnansweredBy lines rows unanswered
+    pub faults : audit.faults.items ≡ faults_from 1 findings ++ unanswered
+    pub good : audit.good ≡ good_count findings
+
 -- `faults` has a fault `Unanswered` for each request whose id is in none of the lines, in the order
 -- of the requests
 abbrev pub AreUnanswered : List (List ℕ) → List Request → List AuditFault → Type 0
-AreUnanswered lines [] faults = faults ≡ []
-AreUnanswered lines (q ∷ requests) faults =
-    (IsNamed lines q.id × AreUnanswered lines requests faults)
-    ⊎ ((¬ IsNamed lines q.id)
-    × ((more : List AuditFault) × (faults ≡ fault.Unanswered q.id ∷ more) × AreUnanswered lines requests more))
+AreUnanswered lines requests faults = AreUnansweredBy request_spec lines requests faults
 
 -- The audit of the replies' lines, given a journal's batches and the requests. The list of faults
 -- begins with the faults of lines, in the order of the lines. A fault for each request whose id is
 -- in no line follows. The audit also counts the good lines.
-pub record IsAudit (batches : List NumberedChanges) (requests : List Request) (lines : List (List ℕ)) (audit : Audit) : Type 0 where
-  pub findings : List Finding
-  pub unanswered : List AuditFault
-  pub found : AreFindings batches requests lines findings
-  pub left : AreUnanswered lines requests unanswered
-  pub faults : audit.faults.items ≡ faults_from 1 findings ++ unanswered
-  pub good : audit.good ≡ good_count findings
+abbrev pub IsAudit : List NumberedChanges → List Request → List (List ℕ) → Audit → Type 0
+IsAudit batches requests lines audit = IsAuditBy request_spec batches requests lines audit

@@ -4,6 +4,8 @@ use Rattle.std.specs.Prelude.{◌≡◌, ◌⊎◌, ℕ, Option, List, ◌++◌}
 use Rattle.std.specs.Io.KnownBytes.{Appends, Keeps}
 use Rattle.cspf_judge.specs.declared.audits.audit_error.AuditError.{AuditError}
 use Rattle.cspf_judge.specs.declared.audits.audit_error.AuditError.TheVariants as audit_error
+use Rattle.cspf_judge.specs.declared.audits.question_audit_error.QuestionAuditError.{QuestionAuditError}
+use Rattle.cspf_judge.specs.declared.audits.question_audit_error.QuestionAuditError.TheVariants as question_audit_error
 use Rattle.cspf_db.specs.declared.replay.UnfitBatch.{UnfitBatch}
 use Rattle.cspf_rows.specs.declared.read_error.ReadError.{ReadError}
 use Rattle.cspf_rows.specs.declared.read_error.ReadError.TheVariants as read_error
@@ -97,3 +99,8 @@ IsAuditFailure (audit_error.Torn after) e = ⊥
 IsAuditFailure (audit_error.Batch number why) e = ⊥
 IsAuditFailure (audit_error.Requests why) e = IsRequestsError why e
 IsAuditFailure (audit_error.SameId row) e = ⊥
+
+-- The error of a run whose streams can't be audited, where rows also ask questions.
+abbrev pub IsQuestionAuditFailure : QuestionAuditError → JudgeError → Type 0
+IsQuestionAuditFailure (question_audit_error.Audit why) e = IsAuditFailure why e
+IsQuestionAuditFailure (question_audit_error.Except row fault) e = ⊥

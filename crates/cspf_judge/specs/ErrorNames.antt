@@ -13,6 +13,10 @@ use Rattle.cspf_rows.specs.declared.requests_error.RequestsError.{RequestsError}
 use Rattle.cspf_rows.specs.declared.requests_error.RequestsError.TheVariants as requests
 use Rattle.cspf_judge.specs.declared.audits.audit_error.AuditError.{AuditError}
 use Rattle.cspf_judge.specs.declared.audits.audit_error.AuditError.TheVariants as error
+use Rattle.cspf_questions.specs.declared.asked.AskedError.{AskedError}
+use Rattle.cspf_questions.specs.declared.asked.AskedError.TheVariants as asked
+use Rattle.cspf_judge.specs.declared.audits.question_audit_error.QuestionAuditError.{QuestionAuditError}
+use Rattle.cspf_judge.specs.declared.audits.question_audit_error.QuestionAuditError.TheVariants as question_error
 use Rattle.cspf_judge.specs.AuditErrors.{IsTornAfter, IsUnlawfulJournal}
 
 -- the error of the audit if reading the journal fails
@@ -28,6 +32,11 @@ requests_error_of requests.Device = error.Device
 requests_error_of requests.TooManyRows = error.TooManyRows
 requests_error_of (requests.Bad row why) = error.Requests (requests.Bad row why)
 requests_error_of (requests.NotAsk row) = error.Requests (requests.NotAsk row)
+
+-- the error of an audit of rows that also ask questions, if reading these rows fails
+abbrev pub question_audit_error_of : AskedError → QuestionAuditError
+question_audit_error_of (asked.Requests why) = question_error.Audit (requests_error_of why)
+question_audit_error_of (asked.Except row fault) = question_error.Except row fault
 
 -- the error of the audit if reading the replies fails: `Memory` if memory was refused, and else
 -- `Device`

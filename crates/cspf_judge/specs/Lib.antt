@@ -3,12 +3,17 @@ pub mod Snapshots
 pub mod SnapshotLaws
 pub mod Replays
 pub mod Lines
+pub mod Asks
 pub mod Requests
 pub mod Findings
+pub mod SkippedLines
+pub mod Asked
+pub mod AskedHeads
 pub mod Audits
 pub mod FaultWords
 pub mod ErrorNames
 pub mod AuditErrors
+pub mod QuestionAudits
 pub mod LineReading
 pub mod Reading
 pub mod Inputs

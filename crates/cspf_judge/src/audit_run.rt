@@ -3,11 +3,14 @@
 
 ghost use Rattle.std.specs.Prelude.{◌≡◌, ℕ, IfOk, OnOk, OnErr};
 ghost use Rattle.std.specs.Io.KnownBytes.{Appends};
-ghost use Rattle.cspf_judge.specs.AuditRun.{IsAuditErrorLine, IsAuditRun, audit_lines, audit_status};
-ghost use Rattle.cspf_judge.specs.EarlyEnds.{IfRefused, IfFailed, IsAuditFailure, HasBegun, Writes, WritesFront};
+ghost use Rattle.cspf_judge.specs.AuditRun.{IsAuditErrorLine, IsAuditRun, IsQuestionAuditErrorLine, IsQuestionAuditRun, audit_lines, audit_status};
+ghost use Rattle.cspf_judge.specs.EarlyEnds.{IfRefused, IfFailed, IsAuditFailure, IsQuestionAuditFailure, HasBegun, Writes, WritesFront};
 
 use crate::input::requests_end_of;
-use crate::{Audit, AuditError, EarlyEnd, JudgeError, JudgeLine, audit, put_line, refuse};
+use crate::{
+    Audit, AuditError, EarlyEnd, JudgeError, JudgeLine, QuestionAuditError, audit,
+    audit_with_questions, put_line, refuse,
+};
 use cspf_stream::{BatchRefusal, StreamLine};
 use std::alloc::Global;
 use std::io::{Read, Write};
@@ -34,6 +37,41 @@ pub fn run_audit<W: Write, R: Read + Drop, Q: Read + Drop, P: Read + Drop>(
     match audit(alloc, journal, requests, replies) {
         Ok(found) => write_audit(alloc, &found, writer),
         Err(error) => refuse(alloc, audit_end_of(error), writer),
+    }
+}
+
+/// Audits replies to rows that ask, `ask` rows and the rows of questions. It does the same as
+/// `run_audit`, for the lines that `IsQuestionAuditRun` defines.
+pub fn run_audit_with_questions<W: Write, R: Read + Drop, Q: Read + Drop, P: Read + Drop>(
+    alloc: Global,
+    journal: R,
+    requests: Q,
+    replies: P,
+    writer: &mut W,
+) -> Result<u8, JudgeError>
+    ensures whole { IfOk result (λ status.
+        Writes (W.contents writer.old) (W.contents writer.new) (λ lines. IsQuestionAuditRun
+        (R.remaining journal) (Q.remaining requests) (P.remaining replies) lines status)) }
+    ensures stopped { OnErr result (HasBegun (W.contents writer.old) (W.contents writer.new)
+        (λ lines. (status : ℕ) × IsQuestionAuditRun (R.remaining journal) (Q.remaining requests)
+        (P.remaining replies) lines status)) }
+{
+    match audit_with_questions(alloc, journal, requests, replies) {
+        Ok(found) => write_audit(alloc, &found, writer),
+        Err(error) => refuse(alloc, question_audit_end_of(error), writer),
+    }
+}
+
+/// How a run ends if its streams can't be audited, where rows also ask questions.
+fn question_audit_end_of(error: QuestionAuditError) -> EarlyEnd
+    ensures refused { IfRefused result (IsQuestionAuditErrorLine error) }
+    ensures failed { IfFailed result (IsQuestionAuditFailure error) }
+{
+    match error {
+        QuestionAuditError::Audit(error) => audit_end_of(error),
+        QuestionAuditError::Except { row, fault } => {
+            EarlyEnd::Refused(JudgeLine::RefusedExcept { row, fault })
+        }
     }
 }
 

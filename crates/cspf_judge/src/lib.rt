@@ -5,6 +5,8 @@
 //! depends on a journal's batches, the requests and the earlier lines. `specs/Audits.antt` defines
 //! the audit of all lines. `specs/AuditErrors.antt` defines the audit of whole streams, and why
 //! streams aren't audited. `run_audit` writes an audit, and `specs/AuditRun.antt` defines its output.
+//! `audit_with_questions` and `run_audit_with_questions` do the same for rows that also ask questions.
+//! `specs/Asked.antt` defines these rows and their lines, and `specs/QuestionAudits.antt` the audit.
 //!
 //! `snapshot` makes the few batches that make a table's database from the empty database, and
 //! `replay` makes the table that batches lead to. `specs/Snapshots.antt` defines the snapshot of a
@@ -26,8 +28,8 @@ mod output;
 mod snapshot_run;
 mod snapshots;
 
-pub use audit_run::run_audit;
-pub use audits::{Audit, AuditError, AuditFault, audit};
+pub use audit_run::{run_audit, run_audit_with_questions};
+pub use audits::{Audit, AuditError, AuditFault, QuestionAuditError, audit, audit_with_questions};
 pub use early_end::{EarlyEnd, JudgeError};
 pub use input::{accept_rest, batches_of, journal_end_of, requests_of};
 pub use line::JudgeLine;

@@ -1,6 +1,7 @@
 //! The lines of a run over a journal, requests or replies, except reply lines.
 
 use crate::AuditFault;
+use cspf_questions::{ExceptFault, QuestionError};
 use cspf_rows::RowError;
 use cspf_stream::StreamLine;
 use std::alloc::{AllocError, Global};
@@ -15,6 +16,8 @@ pub enum JudgeLine {
     Torn { count: usize },
     /// The request row with this number is refused.
     RefusedRequest { row: u32, error: RowError },
+    /// The row of a question with this number is refused, because its exclusions can't be read.
+    RefusedExcept { row: u32, fault: ExceptFault },
     /// The request row with this number has the same id as an earlier row.
     SameId { row: u32 },
     /// The audit found this fault.
@@ -37,6 +40,11 @@ impl fmt::Display for JudgeLine {
             JudgeLine::RefusedRequest { row, error } => write!(
                 f,
                 "request row {row} refused: {error}\n"
+            ),
+            JudgeLine::RefusedExcept { row, fault } => write!(
+                f,
+                "request row {row} refused: {}\n",
+                QuestionError::Except(fault)
             ),
             JudgeLine::SameId { row } => write!(f, "request row {row} refused: same-id\n"),
             JudgeLine::Fault { fault } => write!(f, "{fault}\n"),

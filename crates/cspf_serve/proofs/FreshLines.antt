@@ -9,10 +9,12 @@ use Rattle.cspf_model.specs.Numbered.{NumberedChanges}
 use Rattle.cspf_ero.specs.ReplyHead.{BeginsWithHead, HasOneHead}
 use Rattle.cspf_ero.specs.ReplyLine.{IsReply}
 use Rattle.cspf_ero.specs.declared.head.Head.{Head}
-use Rattle.cspf_rows.specs.Rows.{row_of}
-use Rattle.cspf_rows.specs.declared.row.Row.{Row}
+use Rattle.cspf_questions.specs.declared.kinds.QuestionKinds.{QuestionKinds}
+use Rattle.cspf_questions.specs.declared.reading.ReadFields.{ReadFields}
+use Rattle.cspf_questions.specs.declared.reading.ReadFields.TheVariants as reading
+use Rattle.cspf_questions.specs.QuestionRows.{read_fields}
+use Rattle.cspf_model.specs.Changes.{database_after}
 use Rattle.cspf_rows.specs.declared.row.Row.TheVariants as row
-use Rattle.cspf_rows.specs.declared.row_error.RowError.{RowError}
 use Rattle.cspf_journal.specs.declared.log_step.LogStep.{LogStep}
 use Rattle.cspf_journal.specs.declared.log_step.LogStep.TheVariants.{Recorded, Published, Read}
 use Rattle.cspf_journal.proofs.JournalSteps.{found_among}
@@ -25,7 +27,7 @@ use Rattle.cspf_stream.specs.RowAnswers.{AreAnswered, AreAllAnswered}
 use Rattle.cspf_stream.specs.StreamStops.{FailsOf, NeverFails, HasMoreThan, StopsBetween, StopsInRow, IsRowStopped, HasStopped, IsStreamStopped, stream_error_of}
 use Rattle.cspf_stream.specs.declared.error.StreamError.{StreamError}
 use Rattle.cspf_stream.specs.declared.error.StreamStop.{StreamStop}
-use Rattle.cspf_client.specs.ClientRows.{ReadsCount, IsRequestAnswered, IsClientRowAnswered, IsClientAnswered, IsClientUnanswered}
+use Rattle.cspf_client.specs.ClientRows.{ReadsCount, IsRequestAnswered, IsReadAnswered, IsClientAnswered, IsClientUnanswered}
 use Rattle.cspf_client.specs.ClientRuns.{IsClientStopped}
 use Rattle.cspf_client.specs.SessionStates.{SessionState, AreFirstSteps, HasGoneForward}
 use Rattle.cspf_client.specs.Sessions.{ReopensOf, ClientSession, CameBefore, refused_in}
@@ -40,7 +42,7 @@ use Rattle.cspf_client.specs.ServingStates.{ServingState, unread_rows}
 use Rattle.cspf_client.specs.declared.client.Client.{Client}
 use Rattle.cspf_client.specs.declared.client.ServedClient.{ServedClient}
 use Rattle.cspf_client.specs.declared.error.ClientError.{ClientError}
-use Rattle.cspf_client.proofs.Forward.{forward, forward_row, FailsForward, never_forward, unanswered_forward, forward_row_stopped}
+use Rattle.cspf_client.proofs.Forward.{forward, forward_read, FailsForward, never_forward, unanswered_forward, forward_row_stopped}
 use Rattle.cspf_client.proofs.Prefixes.{AreFirstSteps-trans, IsPrefix-trans}
 use Rattle.cspf_serve.specs.ServedRun.{IsServedClient, IsServedSession, IsServedSeat}
 use Rattle.cspf_serve.specs.ServedLaws.{SessionSteps, IsReadBefore, IsFreshLine, IsAnsweredFresh, HasFreshLines, HasFreshSessions, ServedRepliesAreFresh, SeatsHaveOneSession, steps_of_session, NoReplyIsBehind, read_behind_a_batch}
@@ -77,7 +79,7 @@ up_to_earlier session all s t forward up = record {
   ended = IsPrefix-trans s.steps.steps t.steps.steps session.after forward.steps.begins up.ended;
 }
 
-module _ (all : KnownSteps) (session : SessionSteps) (number : ℕ) (order : AreOrderedFrom 0 0 all.steps) where
+module _ (kinds : QuestionKinds) (all : KnownSteps) (session : SessionSteps) (number : ℕ) (order : AreOrderedFrom 0 0 all.steps) where
   -- Suppose that a client reads the count of published batches before it answers a row. This
   -- reading is one of the journal's steps, and one of the session's steps. After the row, the client
   -- knows at least as many batches as the steps before the reading count as published.
@@ -100,33 +102,39 @@ module _ (all : KnownSteps) (session : SessionSteps) (number : ℕ) (order : Are
         fresh = omega (arith, found, reads.caught_up.known, ap length reads.later.begins.1, length-append reads.mid.batches reads.later.begins.0);
       }
 
-  line_of : (place : ℕ) (s t : SessionState) (r : Result Row RowError) (line : List ℕ) → IsFrom session number s → IsUpTo session all t → IsClientRowAnswered place s r line t
+  line_of : (place : ℕ) (s t : SessionState) (r : ReadFields) (line : List ℕ) → IsFrom session number s → IsUpTo session all t → IsReadAnswered place s r line t
       → IsFreshLine all.steps session number place r line
-  line_of place s t (Ok (row.Ask q)) line from up a = record {
+  line_of place s t (reading.Row (Ok (row.Ask q))) line from up a = record {
     version = length t.known.batches;
     answer = a.answer;
     reply = a.reply;
     read = read_of place s t from up a.reads;
   }
+  line_of place s t (reading.Question question) line from up a = record {
+    version = length t.known.batches;
+    database = database_after t.known.batches;
+    reply = a.reply;
+    read = read_of place s t from up a.reads;
+  }
   line_of place s t r line from up a = tt
 
-  lines_of : (place : ℕ) (s t : SessionState) (rows : Rows) (lines : List ℕ) → IsFrom session number s → IsUpTo session all t → AreAnswered IsClientAnswered place s rows lines t
-      → AreAnswered (IsAnsweredFresh all.steps session number) place tt rows lines tt
+  lines_of : (place : ℕ) (s t : SessionState) (rows : Rows) (lines : List ℕ) → IsFrom session number s → IsUpTo session all t → AreAnswered (IsClientAnswered kinds) place s rows lines t
+      → AreAnswered (IsAnsweredFresh kinds all.steps session number) place tt rows lines tt
   unfolding AreAnswered
   lines_of place s t [] lines from up a = (a.0, refl)
   lines_of place s t (fields ∷ rows) lines from up a =
-      let here : HasGoneForward s a.1 = forward_row place s a.1 (row_of fields) a.0 a.3 in
-      let later : HasGoneForward a.1 t = forward (suc place) a.1 t rows a.2 a.5 in (
+      let here : HasGoneForward s a.1 = forward_read place s a.1 (read_fields kinds fields) a.0 a.3 in
+      let later : HasGoneForward a.1 t = forward kinds (suc place) a.1 t rows a.2 a.5 in (
         a.0,
         tt,
         a.2,
-        line_of place s a.1 (row_of fields) a.0 from (up_to_earlier session all a.1 t later up) a.3,
+        line_of place s a.1 (read_fields kinds fields) a.0 from (up_to_earlier session all a.1 t later up) a.3,
         a.4,
         lines_of (suc place) a.1 t rows a.2 (from_later session number s a.1 here from) up a.5,
       )
 
-  all_lines : (rows : Option Rows) (s t : SessionState) (old new : Option (List ℕ)) → IsFrom session number s → IsUpTo session all t → AreAllAnswered IsClientAnswered rows s t old new
-      → AreAllAnswered (IsAnsweredFresh all.steps session number) rows tt tt old new
+  all_lines : (rows : Option Rows) (s t : SessionState) (old new : Option (List ℕ)) → IsFrom session number s → IsUpTo session all t → AreAllAnswered (IsClientAnswered kinds) rows s t old new
+      → AreAllAnswered (IsAnsweredFresh kinds all.steps session number) rows tt tt old new
   all_lines rows s t old new from up a = record {
     done = a.done;
     lines = a.lines;
@@ -136,11 +144,11 @@ module _ (all : KnownSteps) (session : SessionSteps) (number : ℕ) (order : Are
   }
 
   row_stopped : (fails : FailsOf SessionState) (why : StreamError) (place : ℕ) (fields : List (List ℕ)) (s t : SessionState) (old new : Option (List ℕ)) → IsFrom session number s → IsUpTo session all t
-      → IsRowStopped IsClientAnswered fails why place fields s t old new → IsRowStopped (IsAnsweredFresh all.steps session number) Nothing why place fields tt tt old new
+      → IsRowStopped (IsClientAnswered kinds) fails why place fields s t old new → IsRowStopped (IsAnsweredFresh kinds all.steps session number) Nothing why place fields tt tt old new
   row_stopped fails why place fields s t old new from up a = search (rules, line_of)
 
   module _ (rows left : Option Rows) (failed : Bool) (s t : SessionState) (old new : Option (List ℕ)) (from : IsFrom session number s) (up : IsUpTo session all t) where
-    between : StopsBetween IsClientAnswered rows s t old new → StopsBetween (IsAnsweredFresh all.steps session number) rows tt tt old new
+    between : StopsBetween (IsClientAnswered kinds) rows s t old new → StopsBetween (IsAnsweredFresh kinds all.steps session number) rows tt tt old new
     between a = record {
       done = a.done;
       rest = a.rest;
@@ -150,10 +158,10 @@ module _ (all : KnownSteps) (session : SessionSteps) (number : ℕ) (order : Are
       written = a.written;
     }
 
-    in_row : (fails : FailsOf SessionState) → FailsForward fails → (why : StreamError) → StopsInRow IsClientAnswered fails why rows left s t old new → StopsInRow (IsAnsweredFresh all.steps session number) Nothing why rows left tt tt old new
+    in_row : (fails : FailsOf SessionState) → FailsForward fails → (why : StreamError) → StopsInRow (IsClientAnswered kinds) fails why rows left s t old new → StopsInRow (IsAnsweredFresh kinds all.steps session number) Nothing why rows left tt tt old new
     in_row fails known why a =
-        let here : HasGoneForward s a.before = forward 1 s a.before a.done a.lines a.answered in
-        let later : HasGoneForward a.before t = forward_row_stopped fails known why (suc (length a.done)) a.fields a.before t a.mid new a.stops in record {
+        let here : HasGoneForward s a.before = forward kinds 1 s a.before a.done a.lines a.answered in
+        let later : HasGoneForward a.before t = forward_row_stopped kinds fails known why (suc (length a.done)) a.fields a.before t a.mid new a.stops in record {
           done = a.done;
           fields = a.fields;
           rest = a.rest;
@@ -166,7 +174,7 @@ module _ (all : KnownSteps) (session : SessionSteps) (number : ℕ) (order : Are
           stops = row_stopped fails why (suc (length a.done)) a.fields a.before t a.mid new (from_later session number s a.before here from) up a.stops;
         }
 
-    more_than : (limit : ℕ) → HasMoreThan IsClientAnswered limit rows s t old new → HasMoreThan (IsAnsweredFresh all.steps session number) limit rows tt tt old new
+    more_than : (limit : ℕ) → HasMoreThan (IsClientAnswered kinds) limit rows s t old new → HasMoreThan (IsAnsweredFresh kinds all.steps session number) limit rows tt tt old new
     more_than limit a = record {
       done = a.done;
       fields = a.fields;
@@ -178,50 +186,50 @@ module _ (all : KnownSteps) (session : SessionSteps) (number : ℕ) (order : Are
       written = a.written;
     }
 
-    stopped : (why : StreamStop AskError) → IsStreamStopped IsClientAnswered IsClientUnanswered why rows left failed s t old new
-        → HasStopped (IsAnsweredFresh all.steps session number) Nothing (stream_error_of why) rows left failed tt tt old new
+    stopped : (why : StreamStop AskError) → IsStreamStopped (IsClientAnswered kinds) (IsClientUnanswered kinds) why rows left failed s t old new
+        → HasStopped (IsAnsweredFresh kinds all.steps session number) Nothing (stream_error_of why) rows left failed tt tt old new
     stopped (stop.Stream stream_error.Memory) (inl a) = inl (a.0, between a.1)
     stopped (stop.Stream stream_error.Memory) (inr a) = inr (in_row NeverFails never_forward stream_error.Memory a)
     stopped (stop.Stream stream_error.Read) a = (a.0, between a.1)
     stopped (stop.Stream stream_error.Write) a = in_row NeverFails never_forward stream_error.Write a
     stopped (stop.Stream stream_error.Flush) a = in_row NeverFails never_forward stream_error.Flush a
     stopped (stop.Stream stream_error.TooManyRows) a = more_than MOST_STREAM_ROWS a
-    stopped (stop.Answer fault) a = inr (in_row (IsClientUnanswered fault) (unanswered_forward fault) stream_error.Memory a)
+    stopped (stop.Answer fault) a = inr (in_row (IsClientUnanswered kinds fault) (unanswered_forward kinds fault) stream_error.Memory a)
 
   -- All rows, or the rows before the stream stopped, are answered, and their lines are written. The
   -- lines are as `IsFreshLine` says.
   abbrev Lines : Option Rows → Option (List ℕ) → Option (List ℕ) → Type 0
   Lines rows old new =
-      AreAllAnswered (IsAnsweredFresh all.steps session number) rows tt tt old new
-      ⊎ ((why : StreamError) × (left : Option Rows) × (failed : Bool) × HasStopped (IsAnsweredFresh all.steps session number) Nothing why rows left failed tt tt old new)
+      AreAllAnswered (IsAnsweredFresh kinds all.steps session number) rows tt tt old new
+      ⊎ ((why : StreamError) × (left : Option Rows) × (failed : Bool) × HasStopped (IsAnsweredFresh kinds all.steps session number) Nothing why rows left failed tt tt old new)
 
   module _ {Q V : Type 0} (bytes : Q → Option (List ℕ)) (contents : V → Option (List ℕ)) where
     run_lines : (old new : ServingState Q V) → IsFrom session number old.state → IsUpTo session all new.state → (end : Result (Unit {0}) ClientError)
-        → MatchResult end (λ done. AreAllAnswered IsClientAnswered (unread_rows bytes old.requests) old.state new.state (contents old.replies) (contents new.replies)) (λ why. IsClientStopped why (unread_rows bytes old.requests) old.state new.state (contents old.replies) (contents new.replies))
+        → MatchResult end (λ done. AreAllAnswered (IsClientAnswered kinds) (unread_rows bytes old.requests) old.state new.state (contents old.replies) (contents new.replies)) (λ why. IsClientStopped kinds why (unread_rows bytes old.requests) old.state new.state (contents old.replies) (contents new.replies))
         → Lines (unread_rows bytes old.requests) (contents old.replies) (contents new.replies)
     run_lines old new from up (Ok done) run = inl (all_lines (unread_rows bytes old.requests) old.state new.state (contents old.replies) (contents new.replies) from up run)
     run_lines old new from up (Err why) run =
         inr (stream_error_of run.stop, run.left, run.failed, stopped (unread_rows bytes old.requests) run.left run.failed old.state new.state (contents old.replies) (contents new.replies) from up run.stop run.stopped)
 
 -- the lines of each session are fresh
-session_lines : {Q V : Type 0} (bytes : Q → Option (List ℕ)) (contents : V → Option (List ℕ)) (known : KnownBatches) (all : KnownSteps) (number : ℕ) → AreOrderedFrom 0 0 all.steps
-    → (s : ClientSession Q V) → IsServedSession bytes contents known all number s → HasFreshLines bytes contents all.steps number s
-session_lines {Q} {V} bytes contents known all number order s is =
+session_lines : {Q V : Type 0} (kinds : QuestionKinds) (bytes : Q → Option (List ℕ)) (contents : V → Option (List ℕ)) (known : KnownBatches) (all : KnownSteps) (number : ℕ) → AreOrderedFrom 0 0 all.steps
+    → (s : ClientSession Q V) → IsServedSession kinds bytes contents known all number s → HasFreshLines kinds bytes contents all.steps number s
+session_lines {Q} {V} kinds bytes contents known all number order s is =
     let session : SessionSteps = steps_of_session s in
     let from : IsFrom session number s.before.state = record { client = is.session.number_is; begun = ([], append-nil s.before.state.steps.steps) } in
     let up : IsUpTo session all s.after.state = record { first = is.first; ended = ([], append-nil s.after.state.steps.steps) } in
-    let lines = run_lines all session number order bytes contents s.before s.after from up s.after.end is.session.run in
-    subst (λ (w : V). Lines all session number order (option_map rows_of (bytes s.streams.requests)) (contents w) (contents s.after.replies)) is.session.empty
-    (subst (λ (r : Option Q). Lines all session number order (unread_rows bytes r) (contents s.before.replies) (contents s.after.replies)) is.session.requests lines)
+    let lines = run_lines kinds all session number order bytes contents s.before s.after from up s.after.end is.session.run in
+    subst (λ (w : V). Lines kinds all session number order (option_map rows_of (bytes s.streams.requests)) (contents w) (contents s.after.replies)) is.session.empty
+    (subst (λ (r : Option Q). Lines kinds all session number order (unread_rows bytes r) (contents s.before.replies) (contents s.after.replies)) is.session.requests lines)
 
 pub fresh_runs : (W J : Type 0) {Q V : Type 0} (reopens : ReopensOf Q V) → ServedRepliesAreFresh W J reopens
-fresh_runs W J reopens updates said recorded bytes contents writer journal clients served run =
-    numbered_weaker (IsServedSeat bytes contents reopens run.state.run.accepted served.steps) (HasFreshSessions bytes contents reopens run.state.run.accepted served.steps)
+fresh_runs W J reopens kinds updates said recorded bytes contents writer journal clients served run =
+    numbered_weaker (IsServedSeat kinds bytes contents reopens run.state.run.accepted served.steps) (HasFreshSessions kinds bytes contents reopens run.state.run.accepted served.steps)
     (λ n c s is. record {
       seat = is;
       fresh =
-          All-weaker (IsServedSession bytes contents s.known served.steps n) (HasFreshLines bytes contents served.steps.steps n)
-          (session_lines bytes contents s.known served.steps n run.steps_of_run.journal.order) (is.last ∷ is.earlier) is.each;
+          All-weaker (IsServedSession kinds bytes contents s.known served.steps n) (HasFreshLines kinds bytes contents served.steps.steps n)
+          (session_lines kinds bytes contents s.known served.steps n run.steps_of_run.journal.order) (is.last ∷ is.earlier) is.each;
     })
     1 clients served.clients.items run.clients_served
 
@@ -235,9 +243,9 @@ refused_once : (total sum last : ℕ) → total ≡ min sum (2 ^ 64 - 1) → sum
 refused_once total sum last all is few = omega (arith, all, is, few)
 
 pub one_session : {Q V : Type 0} (reopens : ReopensOf Q V) → SeatsHaveOneSession reopens
-one_session {Q} {V} reopens never bytes contents published all number client served is =
+one_session {Q} {V} reopens never kinds bytes contents published all number client served is =
     let it = only reopens never is.first is.last is.earlier is.in_turn in
-    let head = All-head (IsServedSession bytes contents served.known all number) is.last is.earlier is.each in
+    let head = All-head (IsServedSession kinds bytes contents served.known all number) is.last is.earlier is.each in
     record {
       before = is.last.before;
       after = is.last.after;
@@ -256,11 +264,11 @@ one_session {Q} {V} reopens never bytes contents published all number client ser
     }
 
 -- if a stream has one row, the lines that answer the stream are the line of this row
-one_row : (s t : SessionState) (fields : List (List ℕ)) (lines : List ℕ) → AreAnswered IsClientAnswered 1 s (fields ∷ []) lines t
-    → (line : List ℕ) × IsClientAnswered 1 s fields line t × (lines ≡ line)
+one_row : (kinds : QuestionKinds) (s t : SessionState) (fields : List (List ℕ)) (lines : List ℕ) → AreAnswered (IsClientAnswered kinds) 1 s (fields ∷ []) lines t
+    → (line : List ℕ) × IsClientAnswered kinds 1 s fields line t × (lines ≡ line)
 unfolding AreAnswered
-one_row s t fields lines a =
-    (a.0, subst (λ (n : SessionState). IsClientAnswered 1 s fields a.0 n) (sym a.5.1) a.3, a.4 ∙ (ap (λ (m : List ℕ). a.0 ++ m) a.5.0 ∙ append-nil a.0))
+one_row kinds s t fields lines a =
+    (a.0, subst (λ (n : SessionState). IsClientAnswered kinds 1 s fields a.0 n) (sym a.5.1) a.3, a.4 ∙ (ap (λ (m : List ℕ). a.0 ++ m) a.5.0 ∙ append-nil a.0))
 
 -- the client reads the count of published batches after the batch `b` is counted, so the steps
 -- before this reading count 1 batch
@@ -278,24 +286,24 @@ head_of : (id version : ℕ) (answer : Answer) (line : List ℕ) → id < 2 ^ 64
 head_of id version answer line below few reply = search (rules, append_assoc, codes)
 
 pub not_behind : HasOneHead → NoReplyIsBehind
-not_behind one b all fields q client served answer steps rows asks below empty is ended reply =
+not_behind one kinds b all fields q client served answer steps rows asks below empty is ended reply =
     let Ended : Result (Unit {0}) ClientError → Type 0 = λ e. MatchResult e
-    (λ done. AreAllAnswered IsClientAnswered (unread_rows (λ bytes. Some bytes) is.before.requests) is.before.state is.after.state (Some is.before.replies) (Some is.after.replies))
-    (λ why. IsClientStopped why (unread_rows (λ bytes. Some bytes) is.before.requests) is.before.state is.after.state (Some is.before.replies) (Some is.after.replies)) in
+    (λ done. AreAllAnswered (IsClientAnswered kinds) (unread_rows (λ bytes. Some bytes) is.before.requests) is.before.state is.after.state (Some is.before.replies) (Some is.after.replies))
+    (λ why. IsClientStopped kinds why (unread_rows (λ bytes. Some bytes) is.before.requests) is.before.state is.after.state (Some is.before.replies) (Some is.after.replies)) in
     let end : (is.after.end ≡ Ok tt) × BeginsWith (b ∷ []) served.known.batches = elim is.end [
       | inl well ↦ (sym well.0 ∙ ended, well.1)
       | inr ahead ↦ absurd (cc (ahead.0, ended))
     ] in
     let run = subst Ended end.0 is.run in
     let done : run.done ≡ fields ∷ [] = sym (subst (λ (r : Option (List ℕ)). IfSome (unread_rows (λ bytes. Some bytes) r) (λ l. l ≡ run.done)) is.requests run.whole) ∙ rows in
-    let row = one_row is.before.state is.after.state fields run.lines (subst (λ (l : Rows). AreAnswered IsClientAnswered 1 is.before.state l run.lines is.after.state) done run.answered) in
-    let answered : IsRequestAnswered 1 q is.before.state row.0 is.after.state = subst (λ (r : Result Row RowError). IsClientRowAnswered 1 is.before.state r row.0 is.after.state) asks row.1 in
+    let row = one_row kinds is.before.state is.after.state fields run.lines (subst (λ (l : Rows). AreAnswered (IsClientAnswered kinds) 1 is.before.state l run.lines is.after.state) done run.answered) in
+    let answered : IsRequestAnswered 1 q is.before.state row.0 is.after.state = subst (λ (r : ReadFields). IsReadAnswered 1 is.before.state r row.0 is.after.state) asks row.1 in
     let order : AreOrderedFrom 0 0 all.steps = subst (AreOrderedFrom 0 0) (sym steps) (refl, omega arith, (refl, tt)) in
     let first : AreFirstSteps all is.after.state.steps = subst (λ (k : KnownSteps). AreFirstSteps all k) is.steps is.first in
     let session : SessionSteps = record { before = is.before.state.steps.steps; after = is.after.state.steps.steps } in
     let from : IsFrom session 1 is.before.state = record { client = is.number_is; begun = ([], append-nil is.before.state.steps.steps) } in
     let up : IsUpTo session all is.after.state = record { first = first; ended = ([], append-nil is.after.state.steps.steps) } in
-    let read = read_of all session 1 order 1 is.before.state is.after.state from up answered.reads in
+    let read = read_of kinds all session 1 order 1 is.before.state is.after.state from up answered.reads in
     let version : ℕ = length is.after.state.known.batches in
     let counted : count_of read.before ≡ 1 = behind b read.before read.after read.count (sym steps ∙ read.reading) in
     let few : version ≤ 1 = omega (arith, length-prefix (b ∷ []) served.known.batches end.1, ap (λ (k : KnownBatches). length k.batches) is.known) in

@@ -10,6 +10,7 @@ use Rattle.cspf_client.specs.declared.client.Client.{Client}
 use Rattle.cspf_client.specs.declared.client.ServedClient.{ServedClient}
 use Rattle.cspf_publish.specs.JournalSteps.{KnownSteps, count_of}
 use Rattle.cspf_publish.specs.KnownBatches.{KnownBatches, AreFirstOf}
+use Rattle.cspf_questions.specs.declared.kinds.QuestionKinds.{QuestionKinds}
 use Rattle.cspf_client.specs.SessionStates.{AreFirstSteps}
 use Rattle.cspf_client.specs.Sessions.{ReopensOf, ClientSession, IsSession, CameBefore, refused_in}
 use Rattle.cspf_client.specs.declared.error.ClientError.TheVariants.{Ahead}
@@ -40,7 +41,7 @@ Rows = List (List (List ℕ))
 refused_of : (earlier before refused last total : ℕ) → before ≡ min earlier (2 ^ 64 - 1) → refused ≡ last → total ≡ min (before + refused) (2 ^ 64 - 1) → total ≡ min (last + earlier) (2 ^ 64 - 1)
 refused_of earlier before refused last total was is all = omega (arith, was, is, all)
 
-module _ {Q V : Type 0} (reopens : ReopensOf Q V) (bytes : Q → Option (List ℕ)) (contents : V → Option (List ℕ)) (source : Book) where
+module _ {Q V : Type 0} (kinds : QuestionKinds) (reopens : ReopensOf Q V) (bytes : Q → Option (List ℕ)) (contents : V → Option (List ℕ)) (source : Book) where
   -- if there are as many seats as clients, each client has a seat, which has all that the client's
   -- thread needs
   pub ready_of : (seats : List SeatState) (clients : List (Client Q V)) → length seats ≡ length clients → AllZip (λ (s : SeatState) (c : Client Q V). Unit {0}) seats clients
@@ -52,56 +53,56 @@ module _ {Q V : Type 0} (reopens : ReopensOf Q V) (bytes : Q → Option (List �
   -- have askers of one publisher, and are numbered from `n` on. Then each client was answered by an
   -- asker of this publisher, and the client's number is the number of its seat.
   pub answered_of : (n : ℕ) (seats : List SeatState) (clients : List (Client Q V)) (ran : List (ServingState Q V)) → All (IsSeat source) seats → AreNumberedSeats n seats
-      → AreDone (λ (s : SeatState) (client : Client Q V) (c : ServingState Q V). IsAnswered reopens bytes contents s.asker.source s.number client c) seats clients ran
-      → AreNumberedPairs (IsAnswered reopens bytes contents source) n clients ran
+      → AreDone (λ (s : SeatState) (client : Client Q V) (c : ServingState Q V). IsAnswered kinds reopens bytes contents s.asker.source s.number client c) seats clients ran
+      → AreNumberedPairs (IsAnswered kinds reopens bytes contents source) n clients ran
   answered_of n [] [] [] each numbers done = tt
   answered_of n (s ∷ seats) (c ∷ clients) (r ∷ ran) each numbers done = (
-    subst (λ (m : ℕ). IsAnswered reopens bytes contents source m c r) numbers.0
-        (subst (λ book. IsAnswered reopens bytes contents book s.number c r) (All-head (IsSeat source) s seats each) done.0),
+    subst (λ (m : ℕ). IsAnswered kinds reopens bytes contents source m c r) numbers.0
+        (subst (λ book. IsAnswered kinds reopens bytes contents book s.number c r) (All-head (IsSeat source) s seats each) done.0),
     answered_of (suc n) seats clients ran (All-tail (IsSeat source) s seats each) numbers.1 done.1,
   )
   answered_of n seats clients ran each numbers done = absurd done
 
   -- after the clients have run, the batches that they know, and the steps that they have seen, are
   -- still from the publisher's journal (the source is its identity)
-  pub sources_of_run : (clients : List (Client Q V)) (ran : List (ServingState Q V)) → AreNumberedPairs (IsAnswered reopens bytes contents source) 1 clients ran → All (IsOfSource source) ran
+  pub sources_of_run : (clients : List (Client Q V)) (ran : List (ServingState Q V)) → AreNumberedPairs (IsAnswered kinds reopens bytes contents source) 1 clients ran → All (IsOfSource source) ran
   sources_of_run clients ran answered =
-      numbered_second (IsAnswered reopens bytes contents source) (IsOfSource source) (λ n c s is. (sym is.forward.known.source ∙ is.source_is, sym is.forward.steps.source ∙ is.steps_source)) 1 clients ran answered
+      numbered_second (IsAnswered kinds reopens bytes contents source) (IsOfSource source) (λ n c s is. (sym is.forward.known.source ∙ is.source_is, sym is.forward.steps.source ∙ is.steps_source)) 1 clients ran answered
 
   -- Suppose that a client knew the batches of its state `before` and had seen its steps when a
   -- session began. Then the batches and steps that it knew in the sessions before are prefixes of
   -- all that it knew later.
   sessions_before : (known : KnownBatches) (all : KnownSteps) (number : ℕ) (first : ServingState Q V) (streams : Client Q V) (before : ServingState Q V) (earlier : List (ClientSession Q V))
-      → CameBefore reopens first streams before earlier → All (IsSession bytes contents number) earlier → known.source ≡ all.source → AreFirstOf known before.state.known → AreFirstSteps all before.state.steps
-      → All (IsServedSession bytes contents known all number) earlier
-  sessions_before known all number first streams before [] turn each source knew saw = All-nil (IsServedSession bytes contents known all number)
+      → CameBefore reopens first streams before earlier → All (IsSession kinds bytes contents number) earlier → known.source ≡ all.source → AreFirstOf known before.state.known → AreFirstSteps all before.state.steps
+      → All (IsServedSession kinds bytes contents known all number) earlier
+  sessions_before known all number first streams before [] turn each source knew saw = All-nil (IsServedSession kinds bytes contents known all number)
   sessions_before known all number first streams before (s ∷ earlier) turn each source knew saw =
-      let is = All-head (IsSession bytes contents number) s earlier each in
+      let is = All-head (IsSession kinds bytes contents number) s earlier each in
       let here : AreFirstOf known s.after.state.known = subst (AreFirstOf known) turn.0.known knew in
       let seen : AreFirstSteps all s.after.state.steps = subst (AreFirstSteps all) turn.0.steps saw in
-      All-cons (IsServedSession bytes contents known all number) s earlier
+      All-cons (IsServedSession kinds bytes contents known all number) s earlier
       (record { session = is; first = seen; source = here.source ∙ source; known_first = here })
-      (sessions_before known all number first s.streams s.before earlier turn.1 (All-tail (IsSession bytes contents number) s earlier each) source
+      (sessions_before known all number first s.streams s.before earlier turn.1 (All-tail (IsSession kinds bytes contents number) s earlier each) source
       (AreFirstOf-trans s.before.state.known s.after.state.known known is.forward.known here)
       (AreFirstSteps-trans s.before.state.steps s.after.state.steps all is.forward.steps seen))
 
   -- the same of all sessions of a client that has ended
   sessions_of : (known : KnownBatches) (all : KnownSteps) (number : ℕ) (first : ServingState Q V) (last : ClientSession Q V) (earlier : List (ClientSession Q V))
-      → CameBefore reopens first last.streams last.before earlier → All (IsSession bytes contents number) (last ∷ earlier) → known ≡ last.after.state.known → known.source ≡ all.source
+      → CameBefore reopens first last.streams last.before earlier → All (IsSession kinds bytes contents number) (last ∷ earlier) → known ≡ last.after.state.known → known.source ≡ all.source
       → AreFirstSteps all last.after.state.steps
-      → All (IsServedSession bytes contents known all number) (last ∷ earlier)
+      → All (IsServedSession kinds bytes contents known all number) (last ∷ earlier)
   sessions_of known all number first last earlier turn each is_known source seen =
-      let is = All-head (IsSession bytes contents number) last earlier each in
+      let is = All-head (IsSession kinds bytes contents number) last earlier each in
       let here : AreFirstOf known last.after.state.known = subst (AreFirstOf known) is_known (AreFirstOf-self known) in
-      All-cons (IsServedSession bytes contents known all number) last earlier
+      All-cons (IsServedSession kinds bytes contents known all number) last earlier
       (record { session = is; first = seen; source = here.source ∙ source; known_first = here })
-      (sessions_before known all number first last.streams last.before earlier turn (All-tail (IsSession bytes contents number) last earlier each) source
+      (sessions_before known all number first last.streams last.before earlier turn (All-tail (IsSession kinds bytes contents number) last earlier each) source
       (AreFirstOf-trans last.before.state.known last.after.state.known known is.forward.known here)
       (AreFirstSteps-trans last.before.state.steps last.after.state.steps all is.forward.steps seen))
 
   -- if a client was answered and has its result, `IsServedSeat` holds of the client and its result
-  seat_of : (published : List NumberedChanges) (all : KnownSteps) (n : ℕ) (c : Client Q V) (a : ServingState Q V) (s : ServedClient V) → IsAnswered reopens bytes contents source n c a
-      → IsServedEnd published a s → AreFirstSteps all a.state.steps → IsServedSeat bytes contents reopens published all n c s
+  seat_of : (published : List NumberedChanges) (all : KnownSteps) (n : ℕ) (c : Client Q V) (a : ServingState Q V) (s : ServedClient V) → IsAnswered kinds reopens bytes contents source n c a
+      → IsServedEnd published a s → AreFirstSteps all a.state.steps → IsServedSeat kinds bytes contents reopens published all n c s
   seat_of published all n c a s is ends first =
       let run = is.sessions in
       let known : s.known ≡ run.last.after.state.known = ends.known ∙ ap (λ (x : ServingState Q V). x.state.known) run.after in
@@ -116,7 +117,7 @@ module _ {Q V : Type 0} (reopens : ReopensOf Q V) (bytes : Q → Option (List �
         ends = run.ends;
         each =
             sessions_of s.known all n is.before run.last run.earlier run.in_turn
-            (subst (λ (m : ℕ). All (IsSession bytes contents m) (run.last ∷ run.earlier)) is.number_is run.each) known source_of
+            (subst (λ (m : ℕ). All (IsSession kinds bytes contents m) (run.last ∷ run.earlier)) is.number_is run.each) known source_of
             (subst (λ (x : ServingState Q V). AreFirstSteps all x.state.steps) run.after first);
         replies = ends.replies ∙ ap (λ (x : ServingState Q V). x.replies) run.after;
         refused = refused_of (refused_in run.earlier) a.refused_before a.state.refused run.last.after.state.refused s.refused run.refused (ap (λ (x : ServingState Q V). x.state.refused) run.after) ends.refused;
@@ -128,11 +129,11 @@ module _ {Q V : Type 0} (reopens : ReopensOf Q V) (bytes : Q → Option (List �
   -- if each client was answered and has its result, `IsServedSeat` holds of each client and its
   -- result
   served_of : (published : List NumberedChanges) (all : KnownSteps) (clients : List (Client Q V)) (ran : List (ServingState Q V)) (served : List (ServedClient V))
-      → AreNumberedPairs (IsAnswered reopens bytes contents source) 1 clients ran → AllZip (IsServedEnd published) ran served → All (λ (a : ServingState Q V). AreFirstSteps all a.state.steps) ran
-      → AreServedFrom bytes contents reopens published all 1 clients served
+      → AreNumberedPairs (IsAnswered kinds reopens bytes contents source) 1 clients ran → AllZip (IsServedEnd published) ran served → All (λ (a : ServingState Q V). AreFirstSteps all a.state.steps) ran
+      → AreServedFrom kinds bytes contents reopens published all 1 clients served
   served_of published all clients ran served answered closed firsts =
       let Ends : ServingState Q V → ServedClient V → Type 0 = λ a s. IsServedEnd published a s × AreFirstSteps all a.state.steps in
-      numbered_through (IsAnswered reopens bytes contents source) Ends (IsServedSeat bytes contents reopens published all)
+      numbered_through (IsAnswered kinds reopens bytes contents source) Ends (IsServedSeat kinds bytes contents reopens published all)
       (λ n c a s is ends. seat_of published all n c a s is ends.0 ends.1) 1 clients ran served answered
       (pairs_with (IsServedEnd published) (λ (a : ServingState Q V). AreFirstSteps all a.state.steps) ran served closed firsts)
 
@@ -141,8 +142,8 @@ module _ {Q V : Type 0} (reopens : ReopensOf Q V) (bytes : Q → Option (List �
   pub served_run : {W J : Type 0} (said : W → Option (List ℕ)) (recorded : J → Option (List ℕ)) (updates : Option (List ℕ)) (writer written : W) (first : PublisherState J) (left : KeptUpdates J)
       (clients : List (Client Q V)) (ran : List (ServingState Q V)) (ended : Result (Unit {0}) StreamError) (served : Served W J V)
       → (t : UpdatesState) × KeepsUpdates recorded first left t × IsUpdatesRun ended (option_map rows_of updates) t (said writer) (said written)
-      → AreNumberedPairs (IsAnswered reopens bytes contents source) 1 clients ran → IsClosedRun recorded ended written left ran served
-      → IsServedRun updates said recorded bytes contents reopens writer first.journal clients served
+      → AreNumberedPairs (IsAnswered kinds reopens bytes contents source) 1 clients ran → IsClosedRun recorded ended written left ran served
+      → IsServedRun kinds updates said recorded bytes contents reopens writer first.journal clients served
   served_run said recorded updates writer written first left clients ran ended served run answered closed = grind (arith, common_steps, IsPrefix-trans, served_of)
 
 -- all rows of the updates are answered, and then the last line is written, or writing it fails

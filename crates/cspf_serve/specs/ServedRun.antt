@@ -16,6 +16,7 @@ use Rattle.cspf_client.specs.declared.client.ServedClient.{ServedClient}
 use Rattle.cspf_client.specs.declared.error.ClientError.TheVariants.{Ahead}
 use Rattle.cspf_client.specs.ServingStates.{ServingState, IsReady}
 use Rattle.cspf_client.specs.SessionStates.{AreFirstSteps}
+use Rattle.cspf_questions.specs.declared.kinds.QuestionKinds.{QuestionKinds}
 use Rattle.cspf_client.specs.ClientRuns.{IsClientRun}
 use Rattle.cspf_client.specs.Sessions.{ReopensOf, ClientSession, IsSession, IsLast, CameBefore, refused_in}
 use Rattle.cspf_stream.specs.RowAnswers.{AnswersOf, AreAllAnswered}
@@ -85,14 +86,14 @@ IsUpdatesRun ended all t old new =
 -- prefix of all steps of the journal. So the journal's steps have all readings of the count of
 -- published batches by this client. The result has the batches that the client knew after its last
 -- row.
-pub record IsServedClient {Q V : Type 0} (bytes : Q → Option (List ℕ)) (contents : V → Option (List ℕ)) (published : List NumberedChanges) (all : KnownSteps) (number : ℕ) (client : Client Q V) (served : ServedClient V) : Type 0 where
+pub record IsServedClient {Q V : Type 0} (kinds : QuestionKinds) (bytes : Q → Option (List ℕ)) (contents : V → Option (List ℕ)) (published : List NumberedChanges) (all : KnownSteps) (number : ℕ) (client : Client Q V) (served : ServedClient V) : Type 0 where
   pub before : ServingState Q V
   pub after : ServingState Q V
   pub ready : IsReady before
   pub number_is : before.state.client ≡ number
   pub requests : before.requests ≡ Some client.requests
   pub empty : before.replies ≡ client.replies
-  pub run : IsClientRun bytes contents before after
+  pub run : IsClientRun kinds bytes contents before after
   pub replies : served.replies ≡ after.replies
   pub refused : served.refused ≡ after.state.refused
   pub steps : served.steps ≡ after.state.steps
@@ -106,8 +107,8 @@ pub record IsServedClient {Q V : Type 0} (bytes : Q → Option (List ℕ)) (cont
 -- One of the sessions of the client with this number. The client was answered from the session's
 -- first row on. The batches that it knew at the session's end are a prefix of the batches `known`,
 -- which it knew after its last session. Its steps are a prefix of all steps of the journal.
-pub record IsServedSession {Q V : Type 0} (bytes : Q → Option (List ℕ)) (contents : V → Option (List ℕ)) (known : KnownBatches) (all : KnownSteps) (number : ℕ) (s : ClientSession Q V) : Type 0 where
-  pub session : IsSession bytes contents number s
+pub record IsServedSession {Q V : Type 0} (kinds : QuestionKinds) (bytes : Q → Option (List ℕ)) (contents : V → Option (List ℕ)) (known : KnownBatches) (all : KnownSteps) (number : ℕ) (s : ClientSession Q V) : Type 0 where
+  pub session : IsSession kinds bytes contents number s
   pub first : AreFirstSteps all s.after.state.steps
   pub source : s.after.state.known.source ≡ all.source
   pub known_first : AreFirstOf known s.after.state.known
@@ -119,7 +120,7 @@ pub record IsServedSession {Q V : Type 0} (bytes : Q → Option (List ℕ)) (con
 -- writer of the session before it, and begins with the batches and the steps that the client knew
 -- when that session ended. So along a seat the versions of replies never fall. After the last
 -- session the client learns of all published batches, as in `IsServedClient`.
-pub record IsServedSeat {Q V : Type 0} (bytes : Q → Option (List ℕ)) (contents : V → Option (List ℕ)) (reopens : ReopensOf Q V) (published : List NumberedChanges) (all : KnownSteps) (number : ℕ) (client : Client Q V) (served : ServedClient V) : Type 0 where
+pub record IsServedSeat {Q V : Type 0} (kinds : QuestionKinds) (bytes : Q → Option (List ℕ)) (contents : V → Option (List ℕ)) (reopens : ReopensOf Q V) (published : List NumberedChanges) (all : KnownSteps) (number : ℕ) (client : Client Q V) (served : ServedClient V) : Type 0 where
   pub first : ServingState Q V
   pub last : ClientSession Q V
   pub earlier : List (ClientSession Q V)
@@ -127,7 +128,7 @@ pub record IsServedSeat {Q V : Type 0} (bytes : Q → Option (List ℕ)) (conten
   pub empty : first.replies ≡ client.replies
   pub in_turn : CameBefore reopens first last.streams last.before earlier
   pub ends : IsLast reopens last
-  pub each : All (IsServedSession bytes contents served.known all number) (last ∷ earlier)
+  pub each : All (IsServedSession kinds bytes contents served.known all number) (last ∷ earlier)
   pub replies : served.replies ≡ last.after.replies
   pub refused : served.refused ≡ min (refused_in (last ∷ earlier)) (2 ^ 64 - 1)
   pub steps : served.steps ≡ last.after.state.steps
@@ -138,9 +139,9 @@ pub record IsServedSeat {Q V : Type 0} (bytes : Q → Option (List ℕ)) (conten
 
 -- Each client was answered as `IsServedSeat` says. The first client of the list has the number
 -- `number`, the second client has the next number, and so on.
-abbrev pub AreServedFrom : {Q V : Type 0} → (Q → Option (List ℕ)) → (V → Option (List ℕ)) → ReopensOf Q V → List NumberedChanges → KnownSteps → ℕ → List (Client Q V) → List (ServedClient V) → Type 0
-AreServedFrom bytes contents reopens published all number clients served =
-    AreNumberedPairs (IsServedSeat bytes contents reopens published all) number clients served
+abbrev pub AreServedFrom : {Q V : Type 0} → QuestionKinds → (Q → Option (List ℕ)) → (V → Option (List ℕ)) → ReopensOf Q V → List NumberedChanges → KnownSteps → ℕ → List (Client Q V) → List (ServedClient V) → Type 0
+AreServedFrom kinds bytes contents reopens published all number clients served =
+    AreNumberedPairs (IsServedSeat kinds bytes contents reopens published all) number clients served
 
 -- `all` has the steps of one journal, from its first step on. These steps record all published
 -- batches, and count them as published. The list `steps` is a prefix of these steps.
@@ -168,12 +169,12 @@ IsServedStatus t clients status =
 -- one list of the journal's steps. These steps record the batches, count them as published, and
 -- have the clients' readings of the count of published batches. The clients are numbered from 1.
 -- `reopens` says which streams of a next session the writer of a client's replies may return.
-pub record IsServedRun {W J Q V : Type 0} (updates : Option (List ℕ)) (said : W → Option (List ℕ)) (recorded : J → Option (List ℕ)) (bytes : Q → Option (List ℕ)) (contents : V → Option (List ℕ)) (reopens : ReopensOf Q V) (writer : W) (journal : J) (clients : List (Client Q V)) (served : Served W J V) : Type 0 where
+pub record IsServedRun {W J Q V : Type 0} (kinds : QuestionKinds) (updates : Option (List ℕ)) (said : W → Option (List ℕ)) (recorded : J → Option (List ℕ)) (bytes : Q → Option (List ℕ)) (contents : V → Option (List ℕ)) (reopens : ReopensOf Q V) (writer : W) (journal : J) (clients : List (Client Q V)) (served : Served W J V) : Type 0 where
   pub state : UpdatesState
   pub updates_run : IsUpdatesRun served.updates (option_map rows_of updates) state (said writer) (said served.said)
   pub journal_grown : Appends (recorded journal) (recorded served.journal) state.text
   pub steps_of_run : AreStepsOfRun state.run.accepted state.steps served.steps
-  pub clients_served : AreServedFrom bytes contents reopens state.run.accepted served.steps 1 clients served.clients.items
+  pub clients_served : AreServedFrom kinds bytes contents reopens state.run.accepted served.steps 1 clients served.clients.items
   pub status_is : IsServedStatus state served.clients.items served.status
 
 -- Why no run began: its publisher wasn't opened, or the system had no thread for one of the `count`

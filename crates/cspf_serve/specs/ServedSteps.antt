@@ -12,6 +12,7 @@ use Rattle.cspf_client.specs.declared.client.Client.{Client}
 use Rattle.cspf_client.specs.declared.client.ServedClient.{ServedClient}
 use Rattle.cspf_client.specs.declared.error.ClientError.TheVariants.{Ahead}
 use Rattle.cspf_client.specs.ServingStates.{ServingState}
+use Rattle.cspf_questions.specs.declared.kinds.QuestionKinds.{QuestionKinds}
 use Rattle.cspf_client.specs.Sessions.{ReopensOf, HasSessions}
 use Rattle.cspf_client.specs.SessionStates.{AreFirstSteps, HasGoneForward}
 use Rattle.cspf_stream.specs.declared.error.StreamError.{StreamError}
@@ -25,7 +26,7 @@ use Rattle.cspf_serve.specs.declared.serving.served_run.Served.{Served}
 -- There are `count` seats, numbered from 1. A seat has all that the thread of one client needs. The
 -- seats have askers of one publisher, which answer requests. The lists for the states and the
 -- results of the clients are empty, and have capacity for `count` clients.
-pub record AreSeats {Q V T L : Type 0} (source : Book) (count : ℕ) (made : Seats Q V T L) : Type 0 where
+pub record AreSeats {Q V T L K : Type 0} (source : Book) (count : ℕ) (made : Seats Q V T L K) : Type 0 where
   pub seats : All (IsSeat source) made.seats.items
   pub numbers : AreNumberedSeats 1 made.seats.items
   pub many : vec_len made.seats ≡ count
@@ -36,14 +37,14 @@ pub record AreSeats {Q V T L : Type 0} (source : Book) (count : ℕ) (made : Sea
 
 -- The client with this number was answered in one session after the other, from its first row on,
 -- by an asker of the journal with the identity `source`.
-pub record IsAnswered {Q V : Type 0} (reopens : ReopensOf Q V) (bytes : Q → Option (List ℕ)) (contents : V → Option (List ℕ)) (source : Book) (number : ℕ) (client : Client Q V) (c : ServingState Q V) : Type 0 where
+pub record IsAnswered {Q V : Type 0} (kinds : QuestionKinds) (reopens : ReopensOf Q V) (bytes : Q → Option (List ℕ)) (contents : V → Option (List ℕ)) (source : Book) (number : ℕ) (client : Client Q V) (c : ServingState Q V) : Type 0 where
   pub before : ServingState Q V
   pub number_is : before.state.client ≡ number
   pub source_is : before.state.known.source ≡ source
   pub steps_source : before.state.steps.source ≡ source
   pub requests : before.requests ≡ Some client.requests
   pub replies : before.replies ≡ client.replies
-  pub sessions : HasSessions reopens bytes contents before c
+  pub sessions : HasSessions kinds reopens bytes contents before c
   pub forward : HasGoneForward before.state c.state
 
 -- The updates of a run were answered. The publisher of the run may already have published batches

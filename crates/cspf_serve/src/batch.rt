@@ -2,6 +2,7 @@
 
 mod answering;
 mod batch_run;
+mod growing;
 mod laws;
 mod publishing;
 mod versions;

@@ -26,6 +26,7 @@ pub use batch::{lines_of_a_script, run_batch, run_batch_with};
 pub use cspf_client::{Client, ClientError, EndOfRequests, Reopens, Replies, ServedClient};
 pub use cspf_judge::{Audit, AuditError, AuditFault, audit};
 pub use cspf_publish::{MOST_ASKERS, MOST_TREE_MEGABYTES, TREE_MEGABYTES, trees_in};
+pub use cspf_questions::{AnswersExcept, AnswersNone, Kinds, QuestionKinds};
 pub use cspf_solve::{
     RunOptions, SolveError, Solver, Summary, rows_have_one_reply, run_solve, run_solve_with,
     runs_go_on_row_by_row, stops_at_a_prefix,
@@ -35,10 +36,10 @@ pub use cspf_work::{
     Answers, Drawer, Gate, Live, MOST_REQUESTS, NoGate, ServeError, answer_all, answer_latest,
     run_live,
 };
-pub use judging::{run_audit, run_snapshot};
+pub use judging::{run_audit, run_audit_with_questions, run_snapshot};
 pub use live::{run_live_rows, run_live_rows_with};
 pub use serving::{
-    Served, ServedError, ServedOptions, no_reply_is_behind, run_serve, seats_with_one_session,
-    served_replies_are_fresh,
+    Served, ServedError, ServedOptions, no_reply_is_behind, run_serve, run_serve_with_questions,
+    seats_with_one_session, served_replies_are_fresh,
 };
 pub use streams::RunError;

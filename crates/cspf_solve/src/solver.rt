@@ -5,6 +5,7 @@ ghost use Rattle.std.specs.Prelude.{◌≡◌, ◌+◌, ◌<◌, ◌≤◌, ◌^
 
 use crate::Summary;
 use crate::table_sink::TableSink;
+use cspf_db::Table;
 use cspf_model::{absorbing, one_refusal};
 use cspf_rows::{Row, RowError};
 use cspf_stream::{Answering, Ending, Rows};
@@ -60,7 +61,7 @@ impl Ending for Solver {
 }
 
 impl Solver {
-    ghost use Rattle.cspf_solve.specs.Script.{RunState, start, at_next_row, IsRowAnswered, summary_of};
+    ghost use Rattle.cspf_solve.specs.Script.{RunState, start, at_next_row, after_reply, after_refused_row, IsRowAnswered, summary_of};
     ghost use Rattle.cspf_stream.specs.Lines.{last_line};
     ghost use Rattle.cspf_solve.specs.SolverStates.{KeepsRun, AreFew, AreWithinOne, AreCounted};
     ghost use Rattle.cspf_trees.specs.declared.limits.TheConstants.{MOST_TREES};
@@ -120,8 +121,51 @@ impl Solver {
         self.rows.last_line(alloc, too_many)
     }
 
+    /// The table with the database of the accepted batches.
+    pub fn table(&self) -> &Table
+        ensures { result.now ≡ self.now.rows.sink.table.database }
+    {
+        self.rows.sink.table.table()
+    }
+
+    /// The version of the database: how many batches were accepted.
+    pub fn version(&self) -> u32
+        ensures { result ≡ self.now.rows.sink.version }
+    {
+        self.rows.sink.version
+    }
+
+    /// How many rows of the stream were read.
+    pub fn read(&self) -> u64
+        ensures { result ≡ self.now.read }
+    {
+        self.read
+    }
+
+    /// Counts one more row of the stream, which the caller has read and answered.
+    pub fn count_answer(&mut self)
+        requires { AreFew self.old }
+        ensures state { (s : RunState) → KeepsRun self.old s
+            → KeepsRun self.new (after_reply (at_next_row s)) }
+        ensures counts { AreWithinOne self.old self.new }
+    {
+        self.read = self.read + 1;
+        self.rows.answers += 1;
+    }
+
+    /// Counts one more row of the stream, which the caller has read and refused.
+    pub fn count_refused(&mut self)
+        requires { AreFew self.old }
+        ensures state { (s : RunState) → KeepsRun self.old s
+            → KeepsRun self.new (after_refused_row (at_next_row s)) }
+        ensures counts { AreWithinOne self.old self.new }
+    {
+        self.read = self.read + 1;
+        self.rows.refused += 1;
+    }
+
     /// The summary of a run that ends in this state.
-    pub(crate) fn summary(&self, too_many: bool) -> Summary
+    pub fn summary(&self, too_many: bool) -> Summary
         requires { AreCounted self.now }
         ensures { (s : RunState) → KeepsRun self.now s → result ≡ summary_of s too_many }
     {

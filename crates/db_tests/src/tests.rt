@@ -1,4 +1,5 @@
 mod batches;
+mod copies;
 mod counted;
 mod edits;
 mod marks;

@@ -8,6 +8,7 @@ mod ends;
 mod journals;
 mod memory;
 mod output;
+mod questions;
 mod records;
 mod requests;
 mod rows;

@@ -1,9 +1,9 @@
 //! `routed audit` checks a file of replies against a journal and a file of requests.
 
 use crate::devices::{Output, opened};
-use crate::options::{Asked, Call, CommandOption, CommandText, JOURNAL, REPLIES, REQUESTS};
+use crate::options::{Asked, Call, CommandOption, CommandText, EXCEPT, JOURNAL, REPLIES, REQUESTS};
 use crate::stopped::{Ran, ended};
-use cspf_serve::run_audit;
+use cspf_serve::{run_audit, run_audit_with_questions};
 
 /// The command with its options.
 pub const COMMAND: CommandText = CommandText {
@@ -15,6 +15,7 @@ pub const COMMAND: CommandText = CommandText {
         CommandOption::Journal,
         CommandOption::Requests,
         CommandOption::Replies,
+        CommandOption::Except,
         CommandOption::Explain,
     ],
 };
@@ -24,24 +25,28 @@ const HELP: &str = "\
 The journal and the requests are files as in batch, and each request has an id of its own. The replies
 are lines as batch and live write them. Lines that begin with version, applied or batch are
 skipped. Every other line has to be the reply to its request at the version that it names, byte for
-byte.
+byte. With --except the requests may also have except rows, as in solve, and the replies have their
+lines. No two rows of the requests have one id, whatever their kinds.
 
 Lines of standard output:
-  line L unread              line L doesn't begin as a reply does, with ask, an id and a version
+  line L unread              line L doesn't begin as a reply does, with ask (with --except also with
+                             except), an id and a version
   line L foreign             no request has its id
   line L doubled             an earlier line has its id
   line L no-version          the journal has fewer batches than its version
-  line L altered             it differs from the reply to its request at its version
+  line L altered             it differs from the reply to its request at its version, if only by the
+                             first word
   request ID unanswered      no line has the id of this request
   good=G faults=N            the last line: G lines have no fault
 or one of these alone:
   journal torn after N       rows follow the N whole batches of the journal
   batch N refused: ..        a batch of the journal doesn't fit
-  request row N refused: ..  a row of the requests can't be read, is no ask row, or has the id of an
-                             earlier one: same-id
+  request row N refused: ..  a row of the requests can't be read, is no ask row (nor, with --except,
+                             an except row), or has the id of an earlier one: same-id
   too many rows              a file has more than 1,000,000 rows or lines
 
-Each route is computed again, by a plainer search than that of the other commands.
+Each route is computed again: for an ask row by a plainer search than that of the other commands,
+for an except row as in solve.
 
 Names of files are UTF-8. Rows and lines may be of any length that fits in memory. Standard output must
 be in blocking mode. If it is a file that reaches the limit of its size (ulimit -f), the program ends by
@@ -60,13 +65,12 @@ pub(crate) fn judge(call: &Call<'_, '_>, out: &mut Output<'_>) -> Ran {
     let mut journal = opened(call, JOURNAL)?;
     let mut requests = opened(call, REQUESTS)?;
     let mut replies = opened(call, REPLIES)?;
-    let ran = run_audit(
-        call.rt.alloc(),
-        &mut journal,
-        &mut requests,
-        &mut replies,
-        out,
-    );
+    let alloc = call.rt.alloc();
+    let ran = if call.has(EXCEPT) {
+        run_audit_with_questions(alloc, &mut journal, &mut requests, &mut replies, out)
+    } else {
+        run_audit(alloc, &mut journal, &mut requests, &mut replies, out)
+    };
     ended(
         ran,
         journal.fault().or(requests.fault()).or(replies.fault()),

@@ -40,7 +40,7 @@ Lines of standard output, each as soon as it is known:
   place ID vV route ..       a request is placed, which makes version V; or it is answered none,
                              unknown-from or unknown-to at version V, and nothing changes
   released ID vV             a placement is released, which makes version V
-  place ID refused: ..       twice, full, links or exhausted; release ID refused: absent or exhausted
+  place ID refused: ..       twice, long, full, links or exhausted; release ID refused: absent or exhausted
   row N refused: ..          and batch N refused: .., unended K, too many rows
 
 With --keep the accepted rows go to a new file, each before its lines: of a base batch its rows with the

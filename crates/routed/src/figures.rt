@@ -61,7 +61,7 @@ fn after_space(text: &[u8]) -> &[u8] {
 
 /// The kind of a client's line, and the version of a reply.
 pub(crate) fn line_of(line: &[u8]) -> (CountedLine, u64) {
-    if !line.starts_with(b"ask ") {
+    if !line.starts_with(b"ask ") && !line.starts_with(b"except ") {
         return (CountedLine::Refused, 0);
     }
     let version = after_space(after_space(line));

@@ -51,6 +51,9 @@ pub const REOPEN: &str = "reopen";
 /// The option that gives the path of the file of figures.
 pub const FIGURES: &str = "figures";
 
+/// The flag with which `except` rows are answered, or their lines judged.
+pub const EXCEPT: &str = "except";
+
 /// An option of a command.
 #[derive(Clone, Copy)]
 pub enum CommandOption {
@@ -76,6 +79,8 @@ pub enum CommandOption {
     Trees,
     /// The most rows that clients sent ahead and that are answered at once.
     AtOnce,
+    /// Whether `except` rows are answered, or their lines judged.
+    Except,
     /// Whether the files of a client are opened again after a session.
     Reopen,
     /// The file of figures.
@@ -100,6 +105,7 @@ impl CommandOption {
             CommandOption::Workers => WORKERS,
             CommandOption::Trees => TREES,
             CommandOption::AtOnce => AT_ONCE,
+            CommandOption::Except => EXCEPT,
             CommandOption::Reopen => REOPEN,
             CommandOption::Figures => FIGURES,
             CommandOption::AcceptTorn => ACCEPT_TORN,
@@ -127,6 +133,7 @@ impl CommandOption {
             CommandOption::AtOnce => {
                 "How many rows that clients sent ahead are answered at once, 1 to 64; by default the processors"
             }
+            CommandOption::Except => "Take except rows, too",
             CommandOption::Reopen => {
                 "When a client's rows end, open its files again, for another session"
             }
@@ -159,9 +166,10 @@ impl CommandOption {
             CommandOption::Workers => workers(arg),
             CommandOption::Trees => trees(arg),
             CommandOption::AtOnce => at_once(arg),
-            CommandOption::Reopen | CommandOption::AcceptTorn | CommandOption::Explain => {
-                arg.action(ArgAction::SetTrue)
-            }
+            CommandOption::Except
+            | CommandOption::Reopen
+            | CommandOption::AcceptTorn
+            | CommandOption::Explain => { arg.action(ArgAction::SetTrue) }
             _ => required(arg, "FILE"),
         }
     }

@@ -1,7 +1,8 @@
 //! Finds the refused row of a file, for `--explain`. For this the file is read a second time.
 
-use crate::options::{ACCEPT_TORN, Call, CommandOption, REQUESTS};
+use crate::options::{ACCEPT_TORN, Call, CommandOption, EXCEPT, REQUESTS};
 use crate::standard_error::say_at;
+use cspf_questions::{QuestionError, QuestionKinds, ReadFields};
 use cspf_rows::{MOST_ROWS, Row, RowError, open_records};
 use csv::{ByteRecord, Reader};
 use std::alloc::Global;
@@ -14,6 +15,8 @@ use std::{fmt, fs};
 enum Why {
     /// The row can't be read, or a row of its kind isn't allowed in this file.
     Row(RowError),
+    /// The row is one of a question, and is refused.
+    Question(QuestionError),
     /// The row ends a batch, but its number isn't the number of the next batch.
     Number { expected: u32 },
     /// The row ends a batch, but its count isn't the number of the batch's changes.
@@ -29,6 +32,7 @@ impl fmt::Display for Why {
     fn fmt<W: fmt::Write>(&self, f: &mut fmt::Formatter<W>) -> fmt::Result {
         match self {
             Why::Row(error) => write!(f, "{error}"),
+            Why::Question(error) => write!(f, "{error}"),
             Why::Number { expected } => write!(f, "expected {expected}"),
             Why::Count { counted } => write!(f, "counted {counted}"),
             Why::Unended { changes } => write!(f, "unended {changes}"),
@@ -50,11 +54,20 @@ impl fmt::Display for RefusedRow {
     }
 }
 
+/// What the rows of a file may be.
+#[derive(Clone, Copy)]
+struct Allowed {
+    /// The file is a journal. Otherwise it is a file of requests.
+    is_journal: bool,
+    /// Which kinds of questions a file of requests may have.
+    kinds: QuestionKinds,
+}
+
 /// The state after some rows of a journal or of a file of requests: the number of whole batches,
 /// the number of changes after them, and the first refused row.
 #[derive(Clone, Copy)]
 struct Progress {
-    is_journal: bool,
+    allowed: Allowed,
     batches: u32,
     changes: u32,
     /// The first row that is refused.
@@ -62,22 +75,34 @@ struct Progress {
 }
 
 impl Progress {
-    /// Checks the next row, if no earlier row is refused.
-    fn take(&mut self, row: u32, fields: &ByteRecord) {
+    /// Checks the next row, if no earlier row is refused. The result is `None` if memory is refused.
+    fn take(&mut self, alloc: Global, row: u32, fields: &ByteRecord) -> Option<()> {
         if self.refused.is_none() {
-            if let Some(why) = self.refusal(Row::read(fields)) {
+            let read = ReadFields::of(alloc, self.allowed.kinds, fields).ok()?;
+            if let Some(why) = self.refusal(&read) {
                 self.refused = Some(RefusedRow { row, why });
             }
         }
+        Some(())
     }
 
     /// Counts a row, or returns why the row is refused.
-    fn refusal(&mut self, read: Result<Row, RowError>) -> Option<Why> {
+    fn refusal(&mut self, read: &ReadFields) -> Option<Why> {
+        match read {
+            ReadFields::Row(read) => self.row_refusal(*read),
+            ReadFields::Question(_) => None,
+            ReadFields::Refused(error) => Some(Why::Question(*error)),
+        }
+    }
+
+    /// Counts a row that asks no question, or returns why it is refused.
+    fn row_refusal(&mut self, read: Result<Row, RowError>) -> Option<Why> {
+        let is_journal = self.allowed.is_journal;
         match read {
             Err(error) => Some(Why::Row(error)),
-            Ok(Row::Ask(_)) if !self.is_journal => None,
-            Ok(Row::End { number, count }) if self.is_journal => self.end(number, count),
-            Ok(Row::Put(_) | Row::Remove { .. } | Row::Node { .. }) if self.is_journal => {
+            Ok(Row::Ask(_)) if !is_journal => None,
+            Ok(Row::End { number, count }) if is_journal => self.end(number, count),
+            Ok(Row::Put(_) | Row::Remove { .. } | Row::Node { .. }) if is_journal => {
                 self.changes = self.changes.saturating_add(1);
                 None
             }
@@ -124,21 +149,22 @@ fn is_next<R: Read>(rows: &mut Reader<R>, fields: &mut ByteRecord) -> Option<boo
 
 /// The refused row of a journal or of a file of requests. The result is `None` if no row is
 /// refused, or if the file can't be read to its end.
-fn refused_row<R: Read + Drop>(alloc: Global, file: R, is_journal: bool) -> Option<RefusedRow> {
+fn refused_row<R: Read + Drop>(alloc: Global, file: R, allowed: Allowed) -> Option<RefusedRow> {
     let mut rows = open_records(alloc, file);
     let mut fields = ByteRecord::new(alloc);
-    refused_of(&mut rows, &mut fields, is_journal)
+    refused_of(alloc, &mut rows, &mut fields, allowed)
 }
 
 /// Finds the refused row. It is the first refused row, or the first row beyond the limit if a
 /// journal has too many rows.
 fn refused_of<R: Read>(
+    alloc: Global,
     rows: &mut Reader<R>,
     fields: &mut ByteRecord,
-    is_journal: bool,
+    allowed: Allowed,
 ) -> Option<RefusedRow> {
     let mut progress = Progress {
-        is_journal,
+        allowed,
         batches: 0,
         changes: 0,
         refused: None,
@@ -147,10 +173,10 @@ fn refused_of<R: Read>(
         if !is_next(rows, fields)? {
             return progress.last(row - 1);
         }
-        progress.take(row, fields);
+        progress.take(alloc, row, fields)?;
         // After a refused row, the rest of a journal is still read. If the journal has too many
         // rows, the first row beyond the limit is reported instead of the refused row.
-        if !is_journal && progress.refused.is_some() {
+        if !allowed.is_journal && progress.refused.is_some() {
             return progress.refused;
         }
     }
@@ -192,7 +218,10 @@ fn is_accepted(call: &Call<'_, '_>, option: &'static str) -> bool {
     let Some(file) = again(call.rt, path) else {
         return false;
     };
-    match refused_row(call.rt.alloc(), file, is_journal) {
+    let kinds = QuestionKinds {
+        except: !is_journal && call.has(EXCEPT),
+    };
+    match refused_row(call.rt.alloc(), file, Allowed { is_journal, kinds }) {
         Some(row) => {
             say_at(call.rt, option, path, &row);
             false

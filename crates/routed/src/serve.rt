@@ -9,14 +9,15 @@ use crate::devices::{INPUT, NewFile, OUTPUT, created, flushed, held_places};
 use crate::figures::Figures;
 use crate::noted::{Fault, Noted};
 use crate::options::{
-    Asked, CLIENT, Call, CommandOption, CommandText, EXPLAIN, FIGURES, JOURNAL, REOPEN,
+    Asked, CLIENT, Call, CommandOption, CommandText, EXCEPT, EXPLAIN, FIGURES, JOURNAL, REOPEN,
 };
 use crate::seats::{Closing, RunSeats, Saying, UpdatesRows};
 use crate::stack::grow_stack;
 use crate::standard_error::say_at;
 use crate::stopped::{Ran, Stopped};
 use cspf_serve::{
-    ClientError, MOST_ASKERS, Served, ServedClient, ServedOptions, StreamError, run_serve,
+    AnswersExcept, AnswersNone, ClientError, Kinds, MOST_ASKERS, Served, ServedClient,
+    ServedOptions, StreamError, run_serve_with_questions,
 };
 use std::sync::Wait;
 use std::sync::atomic::AtomicBool;
@@ -35,6 +36,7 @@ pub const COMMAND: CommandText = CommandText {
         CommandOption::ClientsFrom,
         CommandOption::Trees,
         CommandOption::AtOnce,
+        CommandOption::Except,
         CommandOption::Reopen,
         CommandOption::Figures,
         CommandOption::Explain,
@@ -52,13 +54,14 @@ has read version V on standard output, every request that it sends after that is
 later, by any client. No client waits for a batch. A client that sends each row after it has read the
 line of the row before waits for no other client. Of the rows that clients send ahead, at most N
 (--at-once) are answered at once, and these clients take turns. So they don't hold up the batches.
+With --except clients may also send except rows, as in solve.
 
 Lines of standard output, as in solve, and of a client's OUT:
   version V                  a batch is in effect
   ask ID vV route ..         a request is answered at version V; also none, unknown-from, unknown-to
   batch N refused: ..        as in solve; also memory, journal W if the journal failed after W bytes
                              of the batch, and stopped for every batch after that
-  row N refused: ..          also for a row of a client that isn't an ask row
+  row N refused: ..          also for a row of a client that asks nothing
   unended K                  at the end of the updates: K changes that no end row followed
 
 IN and OUT are files, named pipes (mkfifo) or /dev/fd/N, no name twice. IN can't have an = in its name.
@@ -108,7 +111,11 @@ pub(crate) fn answer<T: Threads + Wait + Sync>(call: &Call<'_, '_>, handle: &T) 
         return Err(Stopped::Memory);
     }
     let _held = held_places(call.rt);
-    serve(call, handle, words)
+    if call.has(EXCEPT) {
+        serve::<T, AnswersExcept>(call, handle, words)
+    } else {
+        serve::<T, AnswersNone>(call, handle, words)
+    }
 }
 
 /// Opens the file of figures, if the call gives one. If it can't be opened, the run goes on without
@@ -136,7 +143,11 @@ fn explain_figures(call: &Call<'_, '_>, fault: &Fault) {
 /// Publishes the updates of standard input, and answers the clients meanwhile. Each batch is first
 /// written to the new journal. All files are opened before the first row is read. The journal is
 /// opened last.
-fn serve<T: Threads + Wait + Sync>(call: &Call<'_, '_>, handle: &T, words: &[&str]) -> Ran
+fn serve<T: Threads + Wait + Sync, K: Kinds + Send>(
+    call: &Call<'_, '_>,
+    handle: &T,
+    words: &[&str],
+) -> Ran
     requires { (0 < length words.now) × (length words.now ≤ MOST_ASKERS) }
 {
     let seats = RunSeats {
@@ -151,7 +162,7 @@ fn serve<T: Threads + Wait + Sync>(call: &Call<'_, '_>, handle: &T, words: &[&st
     }
     let clients = open_clients(call, words, &seats)?;
     let mut journal = created(call, JOURNAL)?;
-    let ran = run(call, &seats, &mut journal, clients, words);
+    let ran = run::<T, K>(call, &seats, &mut journal, clients, words);
     if let Some(figures) = &seats.figures {
         if let Some(fault) = figures.fault(handle) {
             explain_figures(call, &fault);
@@ -162,7 +173,7 @@ fn serve<T: Threads + Wait + Sync>(call: &Call<'_, '_>, handle: &T, words: &[&st
 
 /// Reads the updates and serves the clients. With `--explain` it also writes which clients ended
 /// before their rows ended.
-fn run<'a, T: Threads + Wait + Sync>(
+fn run<'a, T: Threads + Wait + Sync, K: Kinds + Send>(
     call: &Call<'_, '_>,
     seats: &'a RunSeats<'a, T>,
     journal: &mut NewFile,
@@ -174,7 +185,7 @@ fn run<'a, T: Threads + Wait + Sync>(
     let rt = call.rt;
     let mut updates = Noted::new(INPUT, rt.reader());
     let mut said = Noted::new(OUTPUT, io::writer(rt));
-    let ran = run_serve(
+    let ran = run_serve_with_questions::<_, _, _, _, _, T, K>(
         seats.handle,
         rt.alloc(),
         UpdatesRows::new(&mut updates, &seats.has_ended),

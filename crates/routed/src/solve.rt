@@ -2,8 +2,10 @@
 
 use crate::devices::{INPUT, OUTPUT, flushed};
 use crate::noted::Noted;
-use crate::options::{Asked, Call, CommandOption, CommandText};
+use crate::options::{Asked, Call, CommandOption, CommandText, EXCEPT};
 use crate::stopped::{Ran, Stopped};
+use cspf_question_run::run_questions;
+use cspf_questions::QuestionKinds;
 use cspf_serve::run_solve_with;
 use std::io;
 
@@ -13,7 +15,11 @@ pub const COMMAND: CommandText = CommandText {
     name: "solve",
     about: "Answers the rows of standard input on standard output",
     help: HELP,
-    options: &[CommandOption::Trees, CommandOption::Explain],
+    options: &[
+        CommandOption::Trees,
+        CommandOption::Except,
+        CommandOption::Explain,
+    ],
 };
 
 /// The help text below the options of `solve`, and below the options of the program.
@@ -31,10 +37,14 @@ Rows of standard input, fields separated by commas:
       count is how many they are
   ask,id,from,to,setup,bandwidth,exclude_any,include_any,include_all,hops
       asks for the least admissible route; bandwidth is in bytes per second, hops may be empty
+  except,id,from,to,setup,bandwidth,exclude_any,include_any,include_all,hops,except
+      with --except: the same, without the links that its last field names by prefixes with a letter:
+      10.0.12.0/31i by the addresses of interfaces, 2.2.2.2/32r by a router
 
 Lines of standard output, each as soon as it is known:
   version V                  a batch is accepted
   ask ID vV route ..         a request is answered at version V; also none, unknown-from, unknown-to
+  except ID vV route ..      the same for an except row
   row N refused: ..          and batch N refused: .., unended K, too many rows
 
 Rows may be of any length that fits in memory. Standard output must be in blocking mode. If its reader
@@ -63,7 +73,14 @@ pub(crate) fn answer(call: &Call<'_, '_>) -> Ran {
     let rt = call.rt;
     let mut reader = Noted::new(INPUT, rt.reader());
     let mut out = Noted::new(OUTPUT, io::writer(rt));
-    match run_solve_with(rt.alloc(), &mut reader, &mut out, call.run_options()) {
+    let options = call.run_options();
+    let ran = if call.has(EXCEPT) {
+        let kinds = QuestionKinds { except: true };
+        run_questions(rt.alloc(), &mut reader, &mut out, options, kinds)
+    } else {
+        run_solve_with(rt.alloc(), &mut reader, &mut out, options)
+    };
+    match ran {
         Ok(summary) => flushed(&mut out, Ok(summary.status())),
         Err(error) => Err(Stopped::Solve(error).by(reader.fault(), out.fault())),
     }

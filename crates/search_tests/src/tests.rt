@@ -1,18 +1,22 @@
 //! Answers of both searches and of trees: ties, reverses, unknown head-ends and tail-ends, and
-//! hops. Some networks are small and have known answers, and others are drawn at random.
+//! hops. Also answers to requests for pairs of ways. Some networks are small and have known answers,
+//! and others are drawn at random.
 
 mod drawn;
+mod excepts;
+mod growth;
 mod legs;
 mod marks;
 mod memory;
 mod networks;
+mod pairs;
 mod shapes;
 mod strict;
 
 use cspf_addr::{Addr, Hops, Mask, parse_hops};
 use cspf_db::Table;
 use cspf_meet::best_from_both_ends;
-use cspf_model::{Batch, Change, Link, Outcome, Request};
+use cspf_model::{Batch, Change, Link, Outcome, Request, Route};
 use cspf_search::{Tree, best, best_by_rounds, best_by_tree};
 use std::alloc::{AllocError, Global};
 use std::process::Abort;
@@ -212,17 +216,22 @@ enum Wanted {
     UnknownTo,
 }
 
+// Whether the route has this cost and links with these remote addresses.
+fn is_along(route: &Route, cost: u64, remotes: &[u32]) -> bool {
+    let mut same = route.links().len() == remotes.len();
+    for (link, remote) in route.links().iter().zip(remotes) {
+        same = same && link.remote.number() == *remote;
+    }
+    same && route.cost() == cost
+}
+
 // Whether the outcome is a route of this cost whose links have these remote addresses. `again` says
 // whether the route must visit a router twice.
 fn is_route(outcome: &Outcome, cost: u64, again: bool, remotes: &[u32]) -> bool {
     let Outcome::Route(route) = outcome else {
         return false;
     };
-    let mut same = route.links().len() == remotes.len();
-    for (link, remote) in route.links().iter().zip(remotes) {
-        same = same && link.remote.number() == *remote;
-    }
-    same && route.cost() == cost && route.again() == again
+    is_along(route, cost, remotes) && route.again() == again
 }
 
 // Whether the outcome is the wanted answer.

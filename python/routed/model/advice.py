@@ -7,7 +7,7 @@ import re
 from .journals import MARK, batches, records
 from .rows import FIELDS, Refused
 
-KINDS = {*FIELDS, "place", "release"}
+KINDS = {*FIELDS, "except", "place", "release"}
 FIRST_BYTES = {
     b"\x1f\x8b": "it is compressed by gzip: unpack it by gunzip",
     b"BZh": "it is compressed by bzip2: unpack it by bunzip2",
@@ -35,6 +35,7 @@ ADVICE = [(re.compile(found), told) for found, told in (
     (r"refused: address \d+", "write four numbers from 0 to 255 with points between"),
     (r"refused: mask \d+", "write 0x and one to eight hexadecimal digits"),
     (r"refused: priority", "write a priority from 0 to 7"),
+    (r"refused: except", "write up to 64 prefixes such as 10.0.12.0/31i and 192.0.2.7/32r with one space between"),
     (r"refused: hops", "write up to seven prefixes such as 10.9.0.0/16s with one space between"),
     (r"refused: (?:self-link|same-ends)", "give two different routers"),
     (r"refused: same-id", "give each request an id of its own"),

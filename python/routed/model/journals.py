@@ -14,7 +14,7 @@ from .rows import MOST_CHANGES, Batch, Refused, refusal
 MARK = b"\xef\xbb\xbf"  # the byte order mark
 MOST_ROWS = 1_000_000
 # What listen says: the lines before the rows, the rows, and the line behind them. Each is empty where it isn't there.
-ROUND = re.compile(rb"(?:version ([0-9]{1,20})\n(?:run [0-9]{1,20}\n)?)?(.*?)(snapshot end\n?)?", re.S)
+ROUND = re.compile(rb"(?:version ([0-9]{1,20})\n(?:run ([0-9]{1,20})\n)?)?(.*?)(snapshot end\n?)?", re.S)
 
 csv.field_size_limit(sys.maxsize)
 
@@ -64,12 +64,12 @@ def read_database(data: bytes, until: int | None = None, has_asks: bool = False)
 def read_snapshot(data: bytes) -> Database:
     """The database of a snapshot: of `routed snapshot`, or of `routed-tools listen` with the lines round its rows, of which the first
     has the version."""
-    head, rows, tail = ROUND.fullmatch(data).groups()  # type: ignore[union-attr]
+    head, run, rows, tail = ROUND.fullmatch(data).groups()  # type: ignore[union-attr]
     if head and not tail:
         raise Refused("the snapshot has no line `snapshot end`, so it isn't whole")
     database = read_database(rows)
     if head:
-        database.version = int(head)
+        database.version, database.run = int(head), run.decode() if run else None
     return database
 
 

@@ -7,6 +7,7 @@ from collections.abc import Callable, Sequence
 from dataclasses import dataclass, field as attribute, replace
 
 MOST_CHANGES = 4096  # of a batch
+MOST_PARTS = 64  # of the field EXCEPT of an `except` row
 OCTET = "(?:[0-9]|[1-9][0-9]|1[0-9][0-9]|2[0-4][0-9]|25[0-5])"
 ADDRESS = re.compile(rf"{OCTET}(?:\.{OCTET}){{3}}")
 NUMBER = re.compile("0|[1-9][0-9]*")
@@ -14,7 +15,7 @@ MASK = re.compile("0x[0-9A-Fa-f]{1,8}")
 # A put row whose numbers have too few digits to be out of range, as nearly all have: one test in the place of fourteen.
 USUAL = re.compile(f"put(?:,{ADDRESS.pattern}){{4}},(?:0|[1-9][0-9]{{0,8}}),{MASK.pattern}(?:,(?:0|[1-9][0-9]{{0,18}})){{8}}")
 DIGITS = "[0-9]{1,20}"
-REPLY = re.compile(rf"(?:ask|place) ({DIGITS}) v({DIGITS}) (?:route cost=({DIGITS}) hops={DIGITS} again=(?:yes|no) "
+REPLY = re.compile(rf"(?:ask|except|place) ({DIGITS}) v({DIGITS}) (?:route cost=({DIGITS}) hops={DIGITS} again=(?:yes|no) "
                    "ero=([0-9a-f]{8}(?:[0-9a-f]{16})+)|(none|unknown-from|unknown-to))")  # the header, and 8 bytes of each link
 
 Key = tuple[str, ...]  # what a change is on: a link's router and local address; for a mark the router alone
@@ -99,6 +100,11 @@ class Link:
     @property
     def name(self) -> str:
         return f"{self.router} {self.local} {self.neighbor} {self.remote}"
+
+    @property
+    def part(self) -> str:
+        """The part of an `except` row that excludes its circuit. Both directions have the same: the lesser address of the interfaces."""
+        return f"{min(self.local, self.remote, key=value)}/32i"
 
     def text(self) -> str:
         free = ",".join(map(str, self.unreserved))
@@ -187,8 +193,31 @@ class Batch:
 
 
 @dataclass(frozen=True)
+class Part:
+    """A part of the field EXCEPT of an `except` row: the bits of its prefix that count, as a number, and how many bits don't."""
+
+    prefix: int
+    shift: int
+    is_router: bool  # it excludes the routers that own the prefix, else the links of interfaces in it
+
+    def covers(self, address: str) -> bool:
+        return value(address) >> self.shift == self.prefix
+
+
+def parts_of(excluded: str) -> tuple[Part, ...]:
+    """The parts of the field EXCEPT of a row that `routed` takes."""
+    found = ((value(address), int(bits[:-1]), bits[-1]) for address, bits in (part.split("/") for part in excluded.split()))
+    return tuple(Part(address >> 32 - bits, 32 - bits, kind == "r") for address, bits, kind in found)
+
+
+def row_of(number: int, constraints: str) -> str:
+    """The row of a request with this id, by the text behind them. An `except` row has one field more than an `ask` row."""
+    return f"{'except' if constraints.count(',') == len(FIELDS['ask']) - 1 else 'ask'},{number},{constraints}"
+
+
+@dataclass(frozen=True)
 class Request:
-    """An `ask` row. The hops are as the row has them."""
+    """An `ask` row, or an `except` row if something is excluded. The hops are as the row has them, and so is what is excluded."""
 
     id: int
     head: str
@@ -199,12 +228,13 @@ class Request:
     include_any: int = 0
     include_all: int = 0
     hops: str = ""
+    excluded: str = ""
 
     @classmethod
     def parse(cls, fields: Sequence[str]) -> Request:
         """The request of a row that `routed` takes."""
-        _, name, head, tail, setup, bandwidth, exclude, include, whole, hops = fields
-        return cls(int(name), head, tail, int(setup), int(bandwidth), int(exclude, 16), int(include, 16), int(whole, 16), hops)
+        _, name, head, tail, setup, bandwidth, exclude, include, whole, hops, *excluded = fields
+        return cls(int(name), head, tail, int(setup), int(bandwidth), int(exclude, 16), int(include, 16), int(whole, 16), hops, *excluded)
 
     def within(self, group: int) -> Request:
         """The same, by links that are all in these groups, too."""
@@ -213,10 +243,11 @@ class Request:
     def constraints(self) -> str:
         """The text behind the word and the id."""
         masks = f"0x{self.exclude_any:08x},0x{self.include_any:08x},0x{self.include_all:08x}"
-        return f"{self.head},{self.tail},{self.setup},{self.bandwidth},{masks},{self.hops}"
+        excluded = f",{self.excluded}" if self.excluded else ""
+        return f"{self.head},{self.tail},{self.setup},{self.bandwidth},{masks},{self.hops}{excluded}"
 
     def text(self) -> str:
-        return f"ask,{self.id},{self.constraints()}"
+        return row_of(self.id, self.constraints())
 
     def prefixes(self) -> list[tuple[int, int]]:
         """The prefixes of its hops: of each its bits that count, as a number, and how many bits don't."""

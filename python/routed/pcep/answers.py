@@ -6,9 +6,10 @@ import struct
 import typing
 
 from ..follow.slices import Form
-from ..model.rows import Reply
+from ..model.rows import Reply, Request
 from ..net.loop import Owner
 from . import wire
+from .exclusions import TooMany, Unavailable
 from .protocol import SessionFront
 from .requests import MOST_OBJECTS, MOST_RETURNED, UNAVAILABLE, UNKNOWN_FROM, UNKNOWN_TO, VECTORS, Asked, no_path, path, requests_of
 from .wire import Object, Refused, pack
@@ -45,7 +46,7 @@ class Answers:
     def begin(self, rp: Object, rest: list[Object], is_bound: bool, svec: bytes) -> None:
         """Reads a request, and asks the server. One that an SVEC binds to others, which has to be processed, is no row."""
         try:
-            asked = Asked(rp)
+            asked = Asked(rp, bool(self.front.srlgs))
         except Refused as fault:
             self.session.refuse(*fault.args, pack(rp.kind, rp.body[:8], rp.type))
             return
@@ -56,35 +57,68 @@ class Answers:
                 raise wire.BadObject
             asked.read(rest, self.session.setup_types, self.session.is_stateful)
         except Refused as fault:
-            self.session.refuse(*fault.args, asked.rp())
+            self.refused(asked, fault)
             return
         asked.svec = svec
         self.vain.pop(asked.id, None)
         self.pending.add(asked)
         self.ask(asked)
 
-    def row(self, asked: Asked) -> str:
-        return asked.request.row(self.session.group(asked.setup_type))
-
     def ask(self, asked: Asked) -> None:
-        self.count += 1
-        self.front.ask(self.row(asked), functools.partial(self.answered, asked), self.session.owner)
+        try:
+            asked.sent = self.session.question(asked.request, asked.setup_type)
+        except Unavailable as fault:
+            self.finish(asked, *self.unavailable(asked, str(fault)))
+        except Refused as fault:
+            self.finish(asked, *self.refused(asked, fault))
+        else:
+            self.count += 1
+            self.front.ask(asked.sent.constraints(), functools.partial(self.answered, asked), self.session.owner)
 
     def answered(self, asked: Asked, line: str | None) -> None:
         self.count -= 1
         if self.session.state == "up" and asked in self.pending:
             answer = Reply.parse(line or "")
-            if answer and self.has_other_ends(asked, answer):
-                if asked.request.ends[0] != asked.request.ends[1]:
-                    self.ask(asked)
-                    return
-                answer = None  # no row has such ends
-            self.pending.remove(asked)
-            data, outcome = self.answer(asked, answer, line)
-            self.front.count("requests", outcome)
-            if data:
-                self.session.send(data)
+            has_others = answer is not None and self.has_other_ends(asked, answer)
+            if has_others and asked.request.ends[0] != asked.request.ends[1]:
+                self.ask(asked)
+            else:  # no row has equal ends
+                self.go_on(asked, None if has_others else answer, line)
         self.session.wake()
+
+    def go_on(self, asked: Asked, answer: Reply | None, line: str | None) -> None:
+        """Asks once more, or sends the answer."""
+        try:
+            if self.session.is_asked_again(asked.request, asked.sent, asked.setup_type, answer, line):
+                self.ask(asked)
+                return
+            found = self.answer(asked, answer, line)
+        except Unavailable as fault:
+            found = self.unavailable(asked, str(fault))
+        except Refused as fault:
+            found = self.refused(asked, fault)
+        self.finish(asked, *found)
+
+    def finish(self, asked: Asked, data: bytes, outcome: str) -> None:
+        self.pending.remove(asked)
+        self.front.count("requests", outcome)
+        if data:
+            self.session.send(data)
+
+    def refused(self, asked: Asked, fault: Refused, why: str = "") -> tuple[bytes, str]:
+        """What became of a request that is answered by an error. A line says why if the error doesn't."""
+        if why := why or (str(fault) if isinstance(fault, TooMany) else ""):
+            self.warn(asked, why)
+        self.session.refuse(*fault.args, asked.rp())
+        return b"", "refused"
+
+    def unavailable(self, asked: Asked, why: str) -> tuple[bytes, str]:
+        """The message for a request that can't be answered now, and what became of it."""
+        self.warn(asked, why)
+        return no_path(asked.svec + asked.rp(), UNAVAILABLE), "unavailable"
+
+    def warn(self, asked: Asked, why: str) -> None:
+        self.front.say("warning", f"{self.session.peer}: request {asked.id}: {why}")
 
     def has_other_ends(self, asked: Asked, answer: Reply) -> bool:
         """Whether the ends of a request are addresses of routers, but not their Router IDs. These it has from now on."""
@@ -109,10 +143,8 @@ class Answers:
             self.keep_vain(asked)
             return no_path(front, UNAVAILABLE), "unavailable"
         if answer is None:  # a row that was refused
-            self.session.refuse(4, 4, asked.rp())
-            return b"", "refused"
-        group = self.session.group(asked.setup_type)
-        if asked.first and not answer.why and not self.front.network.follows(request.asked(group), answer):
+            raise Refused(*wire.PARAMETER)
+        if asked.first and not answer.why and not self.front.network.follows(asked.sent, answer):
             asked.unknown = asked.first  # another server's journal said whose addresses these are
         if asked.unknown or answer.why:
             self.keep_vain(asked)
@@ -122,13 +154,9 @@ class Answers:
         if broken:
             self.keep_vain(asked)
             return no_path(front, 0, b"".join(wire.metric(wire.TE_METRIC, bound, is_bound=True) for bound in broken)), "above the bound"
-        ero, why = self.session.ero(answer, request, asked.setup_type)
+        ero, why = self.session.ero(answer, request, asked.sent, asked.setup_type)
         if why:
-            self.front.say("warning", f"{self.session.peer}: request {asked.id}: {why[1]}")
-            if why[0]:
-                self.session.refuse(*why[0], asked.rp())
-                return b"", "refused"
-            return no_path(front, UNAVAILABLE), "unavailable"
+            return self.refused(asked, Refused(*why[0]), why[1]) if why[0] else self.unavailable(asked, why[1])
         has_room = len(front) + len(ero) + len(request.ignored) + 16 <= wire.MOST
         return path(front, ero, answer.cost, request.ignored) if has_room else path(asked.rp(), ero, answer.cost, b""), "route"
 
@@ -162,13 +190,18 @@ class Answers:
         del self.waiting[asked]
         if self.session.state != "up" or self.vain.get(asked.id) is not asked or asked.is_asked:
             return None
+        try:
+            sent = self.session.question(asked.request, asked.setup_type)
+        except (Refused, Unavailable):
+            return None
         asked.is_asked = True
-        return self.row(asked), functools.partial(self.vain_answered, asked)
+        return sent.constraints(), functools.partial(self.vain_answered, asked, sent)
 
-    def vain_answered(self, asked: Asked, line: str | None) -> None:
+    def vain_answered(self, asked: Asked, sent: Request, line: str | None) -> None:
         asked.is_asked = False
         answer = Reply.parse(line or "")
         is_there = answer and not answer.why and not asked.unknown and not asked.request.broken(answer.cost)
+        is_there = is_there and answer and asked.request.exclusions.holds(self.front, sent, answer)
         if self.session.state != "up" or self.vain.get(asked.id) is not asked:
             return
         if is_there:

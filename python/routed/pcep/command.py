@@ -58,6 +58,8 @@ def main(given: list[str] | None = None) -> int:
                        help="adjacency SIDs, as feed --sids writes them: segment routing (path setup type 1); needs --journal and --watch")
     words.add_argument("--sid-group", dest="group", type=group, default=0, metavar="N",
                        help="links of a segment routing path are in this group")
+    words.add_argument("--srlgs", metavar="FILE",
+                       help="SRLGs of links, as feed --srlgs or a planner writes them: XROs may name them; needs --journal and --watch")
     words.add_argument("--stateful", action="store_true", help="take LSPs that are delegated; needs --watch")
     words.add_argument("--journal", metavar="FILE", help="that of listen, or its folder: by it a route that still serves is known")
     words.add_argument("--gain", type=number(0, 100, float), default=0, metavar="PERCENT",
@@ -78,10 +80,10 @@ def main(given: list[str] | None = None) -> int:
     options = words.parse_args(given)
     if options.stateful and not options.watch:
         words.error("--stateful needs --watch")
-    if (options.gain or options.calm or options.sids) and not options.journal:
-        words.error("--gain, --calm and --sids need --journal")
-    if options.sids and not options.watch:
-        words.error("--sids needs --watch")
+    if (options.gain or options.calm or options.sids or options.srlgs) and not options.journal:
+        words.error("--gain, --calm, --sids and --srlgs need --journal")
+    if (options.sids or options.srlgs) and not options.watch:
+        words.error("--sids and --srlgs need --watch")
     if options.mark is not None and (not options.mark or not options.initiate):
         words.error("--mark needs a PREFIX and --initiate")
     if options.require_keys and not options.keys:

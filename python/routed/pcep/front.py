@@ -29,6 +29,7 @@ from .replies import Replies
 from .requests import Request
 from .session import UP, setup_types, stateful
 from .sids import Sids
+from .srlgs import Srlgs
 from .wanted import by_pcc, wanted
 
 
@@ -47,8 +48,10 @@ class Front:
         self.names = Names.read(options.names)
         self.clock: Callable[[], float] = time.monotonic
         self.sids: Sids | None = Sids(options.sids) if options.sids else None
+        self.srlgs: Srlgs | None = Srlgs(options.srlgs) if options.srlgs else None
+        self.files = [file for file in (self.sids, self.srlgs) if file]
         self.network = Network(options.journal, self.say)
-        self.replies = Replies(options.replies, self.say) if options.replies else None
+        self.replies = {word: Replies(options.replies, self.say, word) for word in ("ask", "except")} if options.replies else {}
         self.version, self.is_over, self.number = 0, False, int(time.time())
         self.pccs: dict[str, Pcc] = {}  # by their addresses
         self.census = Census(self.pccs)
@@ -57,7 +60,7 @@ class Front:
         self.strange_run: str | None = None  # of the SIDs, where it isn't the server's
         self.lsps_unwanted: set[tuple[str, str]] = set()
         self.server = Server(self.loop, options.ask, options.watch, self, options.connections, options.ask_seconds,
-                             lambda: bool(self.sids))
+                             lambda: bool(self.files))
         self.slices = Slices(self.loop, self.ask)
         self.number_of_run: int | None = None
         self.figures = figures = Figures()
@@ -83,7 +86,7 @@ class Front:
         figures.counter("routed_pcep_sessions_ended_total", "Sessions that were up, and ended.")
         figures.counter("routed_pcep_exceptions_total", "Connections that were ended by an exception in the code of this tool.")
         figures.total("routed_pcep_replies_lost", "Reply lines that the files of --replies lack, since they couldn't be written.",
-                      lambda: self.replies.lost if self.replies else 0)
+                      lambda: sum(replies.lost for replies in self.replies.values()))
         figures.gauge("routed_pcep_run", "The number of the server's run; absent if it told none.", lambda: self.number_of_run)
         program.build_info(figures, program.find())
         processes.add(figures)
@@ -126,8 +129,8 @@ class Front:
 
     def ask(self, row: str, call: Callable[[str | None], None], owner: Owner | None) -> None:
         def answered(sent: str | None, line: str | None) -> None:
-            if sent is not None and line is not None and self.replies and line.startswith("ask "):
-                self.replies.keep(sent, line)
+            if sent is not None and line is not None and (replies := self.replies.get(line.partition(" ")[0])):
+                replies.keep(sent, line)
             self.loop.call(owner, call, line)
 
         self.server.asks.ask(row, answered)
@@ -174,20 +177,20 @@ class Front:
     def lost(self, why: str) -> None:
         self.version, self.number_of_run = 0, None
         self.network.begin()
-        if self.sids:
-            self.sids.wanted = None
-        if self.replies:
-            self.replies.of_run(None)
+        for file in self.files:
+            file.wanted = None
+        for replies in self.replies.values():
+            replies.of_run(None)
 
     def begun(self, run: str) -> None:
         """The server has said which run it is. A run that was given no number has a longer name."""
-        if self.sids:
-            self.sids.wanted = run
+        for file in self.files:
+            file.wanted = run
         number = int(run) if run.isdigit() and len(run) <= DIGITS else None
         if number != self.number_of_run:
             self.number_of_run = number
-            if self.replies:
-                self.replies.of_run(number)
+            for replies in self.replies.values():
+                replies.of_run(number)
 
     def status(self) -> str:
         """The status line of the unit."""
@@ -196,6 +199,8 @@ class Front:
 
     def told(self, version: int) -> None:
         self.version = version
+        for file in self.files:  # its lines of this version are there, and need no ask of their own
+            file.has_news()
         self.again()
 
     def again(self) -> None:
@@ -214,8 +219,8 @@ class Front:
         self.pccs[peer] = Pcc(self, stream, peer)
 
     def tick(self) -> None:
-        """Each second: SIDs that changed at no version of their own, and timers."""
-        if self.sids and self.sids.look():
+        """Each second: SIDs and SRLGs that changed at no version of their own, and timers."""
+        if any([file.has_news() for file in self.files]):
             self.again()
         self.tick_next([*self.pccs.values()])
 

@@ -19,12 +19,13 @@ if typing.TYPE_CHECKING:
     from .session import Session
 
 TOO_MANY = 20, 1  # the error of a report above --most-lsps, or above the next bound
+TAKEN = 23, 1  # the error of a delegation that belongs to another PCC
 MOST_BYTES = 8 << 20  # bytes of the reports of all LSPs of a PCC
 # Why a delegation is returned, in words.
 FAULTS = {(3, 1): "an object of an unknown class", (3, 2): "an object of an unknown type", (4, 1): "an object that no row can say",
           (4, 2): "an object of a type that no row can say", (4, 4): "a constraint that no row can say",
           (6, 11): "its ends aren't known or are the same", (10, 11): "an object that can't be read",
-          (21, 1): "a path setup type that the session doesn't have", (23, 1): "another PCC has delegated it"}
+          (21, 1): "a path setup type that the session doesn't have", TAKEN: "another PCC has delegated it"}
 
 
 STAYS_DOWN = "its PCC reports it as DOWN"
@@ -184,7 +185,7 @@ class Lsps:
     def read(self, lsp: Lsp, one: Report) -> Request:
         """The request of a delegated LSP. Its constraints have to be kept, whatever their P flags say: these are of requests alone
         (RFC 8231 7)."""
-        request = Request()
+        request = Request(bool(self.front.srlgs))
         ends = one.ends or (lsp.request.ends if lsp.request else self.ends_by_route(one))
         request.ends = ends
         wanted = self.front.wanted(self.session.peer, lsp.name) if lsp.flags & CREATED else None
@@ -195,7 +196,7 @@ class Lsps:
         if ends[0] == ends[1]:
             raise Refused(6, 11)
         if not self.front.claims(self.session.peer, ends[0], lsp.name):
-            raise Refused(23, 1)
+            raise Refused(*TAKEN)
         if lsp.setup_type not in self.session.setup_types:
             raise Refused(21, 1)
         for constraint in one.constraints:
@@ -231,10 +232,10 @@ class Lsps:
         self.drop_updates(lsp)
         self.update(lsp, pack(wire.O_ERO, lsp.ero if len(lsp.ero) + 60 <= wire.MOST else b""), 0, b"")
 
-    def lose(self, lsp: Lsp) -> None:
-        """The PCC at its head-end has delegated it."""
+    def lose(self, lsp: Lsp, fault: Refused | None = None) -> None:
+        """The LSP isn't ours any more: the PCC at its head-end has delegated it, or its request can't be asked for this reason."""
         lsp.request = None
-        self.give_back(lsp, Refused(23, 1))
+        self.give_back(lsp, fault or Refused(*TAKEN))
 
     def removed(self, number: int) -> None:
         lsp = self.all.pop(number, None)

@@ -5,6 +5,7 @@ import struct
 import typing
 
 from ..follow.slices import Form
+from ..model import rows
 from ..model.rows import Reply
 from ..net.loop import Owner
 from . import wire
@@ -166,15 +167,16 @@ class Making:
             self.initiated.pop(name, None)
             return None
         setup_type = max(self.session.setup_types, default=0)
-        return request.row(self.session.group(setup_type)), lambda line: self.create(name, request, setup_type, line)
+        sent = self.session.question(request, setup_type)
+        return sent.constraints(), lambda line: self.create(name, request, sent, setup_type, line)
 
-    def create(self, name: str, request: Request, setup_type: int, line: str | None) -> None:
+    def create(self, name: str, request: Request, sent: rows.Request, setup_type: int, line: str | None) -> None:
         if not self.may_make():  # it is begun again once it may be
             self.initiated.pop(name, None)
             return
         answer = Reply.parse(line or "")
         if answer and not answer.why:
-            ero, refusal = self.session.ero(answer, request, setup_type)
+            ero, refusal = self.session.ero(answer, request, sent, setup_type)
             why = refusal and refusal[1]
         else:
             ero, why = b"", line or "no answer"

@@ -2,16 +2,20 @@
 from __future__ import annotations
 
 import typing
+from dataclasses import replace
 
 from ..follow.slices import Form
+from ..model import rows
 from ..model.rows import Reply
 from ..net.loop import Owner
 from . import wire
+from .exclusions import Unavailable
 from .lsp import ANSWER, DELEGATED, MOST_AT_ONCE, Lsp, Update
 from .protocol import SessionFront
 from .reports import error_named
 from .requests import Request
 from .routes import Route, has_labels, plain, route_of, says
+from .wire import Refused
 
 if typing.TYPE_CHECKING:
     from .lsps import Lsps
@@ -55,28 +59,52 @@ class Moves:
             return None
         if not self.lsps.is_synced or self.front.is_away or lsp.is_asked or self.session.is_full:
             return None
+        request = lsp.asked()
+        try:
+            sent = self.session.question(request, lsp.setup_type)
+        except Unavailable as fault:
+            self.lose(lsp, str(fault))
+            return None
+        except Refused as fault:
+            self.lsps.lose(lsp, fault)
+            return None
         lsp.is_asked = True
-        request, group = lsp.asked(), self.session.group(lsp.setup_type)
-        return request.row(group), lambda line: self.answered(lsp, request, group, line)
+        return sent.constraints(), lambda line: self.answered(lsp, request, sent, line)
 
     def ask_again(self, lsp: Lsp) -> None:
         """Asks for the route of an LSP if it is still ours."""
         if self.lsps.all.get(lsp.number) is lsp and lsp.is_ours():
             self.ask(lsp)
 
-    def answered(self, lsp: Lsp, request: Request, group: int, line: str | None) -> None:
+    def answered(self, lsp: Lsp, request: Request, sent: rows.Request, line: str | None) -> None:
         lsp.is_asked = False
         if self.session.state != "up" or self.lsps.all.get(lsp.number) is not lsp or not lsp.is_ours() or self.session.is_overloaded():
             return
         if line is None and not self.front.is_away:  # the server is busy
             self.lsps.wake(lsp, self.front.clock() + BUSY_AGAIN)
         answer = Reply.parse(line or "")
+        if request is lsp.request and self.is_followed_up(lsp, sent, answer, line):
+            return
         if answer and request is lsp.request and answer.version >= self.front.network.version:
-            self.judge(lsp, group, answer)
+            self.judge(lsp, sent, answer)
         elif line is not None and answer is None:
             self.front.say("error", f"{self.lsps.named(lsp)}: its request was refused: {line}")
+        request.exclusions.settle()
         if answer and (request is not lsp.request or answer.version < self.front.version):
             self.ask(lsp)
+
+    def is_followed_up(self, lsp: Lsp, sent: rows.Request, answer: Reply | None, line: str | None) -> bool:
+        """Whether a line is no answer for an LSP: it is asked for again, or what it excludes can't be said."""
+        try:
+            if not self.session.is_asked_again(lsp.asked(), sent, lsp.setup_type, answer, line):
+                return False
+            self.ask(lsp)
+        except Unavailable as fault:
+            self.lose(lsp, str(fault))
+            self.lsps.wake(lsp, self.front.clock() + BUSY_AGAIN)
+        except Refused as fault:
+            self.lsps.lose(lsp, fault)
+        return True
 
     # ---- routes
 
@@ -110,14 +138,14 @@ class Moves:
 
     # ---- decisions
 
-    def judge(self, lsp: Lsp, group: int, answer: Reply) -> None:
+    def judge(self, lsp: Lsp, asked: rows.Request, answer: Reply) -> None:
         """Moves the LSP where its best route is another one, unless what it has still serves and little is gained, or its PCC has
         refused that."""
-        request, asked, network = lsp.asked(), lsp.asked().asked(group), self.front.network
+        request, network = lsp.asked(), self.front.network
         if answer.why or request.broken(answer.cost):
             self.lose(lsp, answer.why or "above its bound")
             return
-        ero, refusal = self.session.ero(answer, request, lsp.setup_type)
+        ero, refusal = self.session.ero(answer, request, asked, lsp.setup_type)
         if refusal:
             self.lose(lsp, refusal[1])
             return
@@ -126,7 +154,8 @@ class Moves:
         sent = lsp.pending
         route = sent.route if sent else self.route_of(lsp)
         had = None if not is_known or not route else answer.cost if route == answer.fars else network.cost(asked, route)
-        is_broken = bool(is_known and route) and had is None
+        needed = replace(asked, excluded=request.exclusions.needed)  # a route with what should be excluded isn't lost
+        is_broken = bool(is_known and route) and had is None and network.cost(needed, route or ()) is None
         is_same = sent.ero == body if sent else self.is_same(lsp, body, answer.fars)
         is_down = not sent and bool(lsp.ero) and lsp.is_reported_down()
         if is_known and not sent and not is_broken:
@@ -190,7 +219,7 @@ class Moves:
         return True
 
     def attributes(self, lsp: Lsp) -> bytes:
-        return lsp.asked().attributes + lsp.asked().iro
+        return lsp.asked().attributes + lsp.asked().behind
 
     def next_at(self, lsp: Lsp, body: bytes, version: int) -> float:
         """When this update may be sent: the same thing isn't sent twice without a wait, nor many at one version."""
@@ -209,7 +238,7 @@ class Moves:
             self.lsps.wake(lsp, at)
             return
         asked = lsp.asked()
-        attributes = asked.attributes + wire.metric(wire.TE_METRIC, answer.cost, is_computed=True) + asked.iro
+        attributes = asked.attributes + wire.metric(wire.TE_METRIC, answer.cost, is_computed=True) + asked.behind
         if len(ero) + len(attributes) + 60 > wire.MOST:
             self.lose(lsp, "its path has no room in a message")
             return

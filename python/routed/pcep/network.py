@@ -20,8 +20,11 @@ class Network(Followed):
         self.count = 0  # of these
         self.homes: dict[str, dict[str, int]] = {}  # by an address of an interface: its routers, and their links there
         self.since: dict[Key, int] = {}  # by a link or a router: the version of its last change
+        self.shape = object()  # another one once links come or go, or have other ends
 
     def applied(self, batch: Batch, gone: list[Link]) -> None:
+        if {had.key: had.back for had in gone} != {change.key: change.back for change in batch.changes if isinstance(change, Link)}:
+            self.shape = object()
         for had in gone:
             self.leave(had)
         for change in batch.changes:
@@ -53,6 +56,12 @@ class Network(Followed):
                 self.seen.setdefault(row.router, {})[row.local, row.remote] = row
                 self.count += 1
         self.since = {key: version for key, version in self.since.items() if key in self.rows or len(key) == 1}
+
+    def is_at(self, version: int) -> bool:
+        """Whether it is the server's network of a version at which the server has answered without a route."""
+        if self.tail and not self.reach(version) and self.version < version:
+            self.doubt(self.tail)
+        return self.version == version and not self.is_doubted
 
     # ---- routes
 

@@ -8,6 +8,7 @@ from ..net.loop import Owner
 from .network import Network
 from .requests import Request
 from .sids import Sids
+from .srlgs import Srlgs
 
 Link = tuple[str, str, int]  # a link of a segment routing path: near address, far address, label
 
@@ -18,6 +19,7 @@ class SessionFront(Protocol):
     options: Namespace
     network: Network
     sids: Sids | None
+    srlgs: Srlgs | None
     version: int  # the newest that is known
     clock: Callable[[], float]
 

@@ -1,5 +1,6 @@
 """Requests and reply lines in files, as `routed audit` reads them: pairs N.requests and N.replies, of one run of the server each. If the
-run has a number, they are RUN.N.requests and RUN.N.replies, and RUN.journal is the journal of that run in the folder of deploy/keep."""
+run has a number, they are RUN.N.requests and RUN.N.replies, and RUN.journal is the journal of that run in the folder of deploy/keep.
+`except` rows are in pairs of their own, N.except_requests and N.except_replies: an audit reads them by another option."""
 from __future__ import annotations
 
 import os
@@ -18,8 +19,9 @@ class Replies:
     """Both files of a pair get a line at once, so neither has one that the other lacks. If the disk doesn't take both lines whole, they
     are cut back, and lost: nothing else waits for the disk."""
 
-    def __init__(self, folder: str, say: Callable[[str, str], object] = lambda level, text: None) -> None:
+    def __init__(self, folder: str, say: Callable[[str, str], object] = lambda level, text: None, word: str = "ask") -> None:
         self.folder, self.say, self.count, self.number, self.lost = folder, say, 0, 0, 0
+        self.kinds = [f"{f'{word}_' * (word != 'ask')}{kind}" for kind in ("requests", "replies")]  # behind the dot of each name
         self.run = ""  # the front of each name
         self.files: list[int] = []
         self.sizes = [0, 0]
@@ -49,7 +51,7 @@ class Replies:
         """Opens a new pair."""
         self.number += 1
         self.sizes = [0, 0]
-        for kind in ("requests", "replies"):
+        for kind in self.kinds:
             path = os.path.join(self.folder, f"{self.run}{self.number}.{kind}")
             try:
                 self.files.append(os.open(path, os.O_WRONLY | os.O_CREAT | os.O_EXCL | os.O_CLOEXEC, 0o666))

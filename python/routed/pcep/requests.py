@@ -9,15 +9,15 @@ import struct
 
 from ..model import rows
 from . import wire
-from .wire import BadObject, Object, Refused, SID_DEPTH, TE_METRIC, fields, pack
+from .exclusions import Exclusions
+from .wire import CLASS, PARAMETER, TYPE, UNKNOWN_CLASS, UNKNOWN_TYPE
+from .wire import BadObject, NeverIgnored, Object, Refused, SID_DEPTH, TE_METRIC, fields, pack
 
 MOST_HOPS = 7  # of a row
 MOST_SIDS = 255  # that a limit can say (RFC 8664 4.5)
 MOST_OBJECTS = 256  # of one request, or of one report
 MOST_RETURNED = 1024  # bytes of ignored objects that an answer returns, and as many of SVECs
 MINIMUM_COST = 1  # the objective function that a row has (RFC 5541 3.1)
-CLASS, TYPE, PARAMETER = (4, 1), (4, 2), (4, 4)  # what isn't supported
-UNKNOWN_CLASS, UNKNOWN_TYPE = (3, 1), (3, 2)
 UNAVAILABLE, UNKNOWN_TO, UNKNOWN_FROM = 1, 2, 4  # bits of the NO-PATH-VECTOR
 REVERSE = 1 << 4  # RP: both directions
 REOPTIMIZE = 1 << 3  # RP
@@ -26,20 +26,18 @@ NOWHERE = "", ""  # the ends of a request that has none yet
 VECTORS = {"none": 0, "unknown-to": UNKNOWN_TO, "unknown-from": UNKNOWN_FROM}
 
 
-class NeverIgnored(Refused):
-    """The reason to refuse an object whether it has the P flag or not."""
-
-
 class Request:
     """One request: the fields of a row, bounds of the cost, and what is returned of its objects."""
 
-    def __init__(self) -> None:
+    def __init__(self, has_srlgs: bool = False) -> None:
         self.ends: tuple[str, str] = NOWHERE
         self.bandwidth, self.setup, self.hops = 0, 7, ""
+        self.exclusions, self.has_srlgs = Exclusions(), has_srlgs  # whether it may name SRLGs
         self.masks = 0, 0, 0
         self.bounds: list[float] = []
         self.most_sids: int | None = None
-        self.attributes, self.iro, self.ignored = b"", b"", b""  # objects as a PCUpd returns them, and with the I flag
+        # Objects as a PCUpd returns them in front of the METRIC of its path and behind that, and with the I flag.
+        self.attributes, self.behind, self.ignored = b"", b"", b""
 
     def take(self, given: Object) -> None:
         """Reads an object."""
@@ -50,8 +48,10 @@ class Request:
             if given.type != 1:
                 raise Refused(*(TYPE if (given.kind, given.type) in KNOWN else UNKNOWN_TYPE))
             read(self, given.body)
-            if given.kind == wire.O_IRO:
-                self.iro += pack(given.kind, given.body)
+            if given.kind == wire.O_XRO:
+                self.exclusions.objects.append(given)
+            if given.kind in (wire.O_IRO, wire.O_XRO):
+                self.behind += pack(given.kind, given.body)
             elif given.kind != wire.O_ENDS and (given.kind != wire.O_METRIC or given.body[2] & 1):  # no bound: another route's
                 self.attributes += pack(given.kind, given.body, given.type)
         except (BadObject, NeverIgnored):
@@ -59,8 +59,17 @@ class Request:
         except Refused:
             if given.must:
                 raise
-            if len(self.ignored) + 4 + len(given.body) <= MOST_RETURNED:
-                self.ignored += pack(given.kind, given.body, given.type, ignored=True)
+            self.ignore(given)
+
+    def ignore(self, given: Object) -> None:
+        """An object is returned with the I flag."""
+        if len(self.ignored) + 4 + len(given.body) <= MOST_RETURNED:
+            self.ignored += pack(given.kind, given.body, given.type, ignored=True)
+
+    def ignore_exclusions(self) -> None:
+        """Ignores the XROs, which the server's rows can't say, if none of them has the P flag."""
+        for given in self.exclusions.drop():
+            self.ignore(given)
 
     def take_ends(self, body: bytes) -> None:
         here, there = fields("!4s4s", body)
@@ -108,6 +117,9 @@ class Request:
             raise Refused(*PARAMETER)
         self.hops = " ".join(hops)
 
+    def take_xro(self, body: bytes) -> None:
+        self.exclusions.take(body, self.has_srlgs)
+
     def take_objective(self, body: bytes) -> None:
         if fields("!H", body)[0] != MINIMUM_COST:
             raise Refused(*PARAMETER)
@@ -115,13 +127,13 @@ class Request:
     def take_unsupported(self, body: bytes) -> None:
         raise Refused(*CLASS)
 
-    def asked(self, group: int = 0) -> rows.Request:
+    def asked(self, group: int = 0, excluded: str = "") -> rows.Request:
         """What is asked. The links that it may use are in the group, too."""
-        found = rows.Request(0, *self.ends, self.setup, self.bandwidth, *self.masks, self.hops)
+        found = rows.Request(0, *self.ends, self.setup, self.bandwidth, *self.masks, self.hops, excluded)
         return found.within(group) if group else found
 
     def row(self, group: int = 0) -> str:
-        """An `ask` row without its word and id."""
+        """An `ask` row without its word and id, by which nothing is excluded."""
         return self.asked(group).constraints()
 
     def broken(self, cost: int) -> list[float]:
@@ -131,18 +143,19 @@ class Request:
 
 READERS = {wire.O_ENDS: Request.take_ends, wire.O_BANDWIDTH: Request.take_bandwidth, wire.O_LSPA: Request.take_lspa,
            wire.O_METRIC: Request.take_metric, wire.O_IRO: Request.take_iro, wire.O_OF: Request.take_objective,
-           wire.O_RRO: Request.take_unsupported}
+           wire.O_RRO: Request.take_unsupported, wire.O_XRO: Request.take_xro}
 KNOWN = {(wire.O_ENDS, kind) for kind in (2, 3, 4)} | {BANDWIDTH_HELD}  # IPv6 and P2MP ends
 
 
 class Asked:
     """A request of a PCReq: its RP, and what its objects ask for."""
 
-    def __init__(self, rp: Object) -> None:
+    def __init__(self, rp: Object, has_srlgs: bool = False) -> None:
         self.flags, self.id = fields("!II", rp.body)
         if not self.id:  # it is reserved
             raise Refused(10, 1)
-        self.must, self.setup_type, self.request = rp.must, 0, Request()
+        self.must, self.setup_type, self.request = rp.must, 0, Request(has_srlgs)
+        self.sent = self.request.asked()  # what was asked last
         self.tlvs, self.svec = rp.body[8:], b""
         self.is_resolved, self.unknown = False, 0  # whether its ends were looked up; a bit of the NO-PATH-VECTOR
         self.first = 0  # the bit of the answer before they were looked up

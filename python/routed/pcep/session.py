@@ -2,9 +2,11 @@
 
 It has no socket and no clock: it is given bytes and times, and gives bytes."""
 import collections
+import re
 import struct
 from collections.abc import Callable
 
+from ..model import rows
 from ..model.rows import Reply
 from ..net.loop import Owner
 from . import wire
@@ -20,6 +22,7 @@ MOST_UNKNOWN, MINUTE = 5, 60  # unknown messages in a minute
 SLICE, BYTES = 8, 1 << 14  # messages, or requests and reports of them, that are taken at once; and bytes of messages
 WEIGHT = 1024  # bytes of a message that count as one more message
 MOST_OVERLOAD = 600  # seconds for which a PCC is left alone that says that it has too much to do
+KIND = re.compile(r"row \d+ refused: kind")  # how a server refuses rows that it doesn't take
 OPEN_WAIT, KEEP_WAIT, UP, OVER = "open wait", "keep wait", "up", "over"
 
 
@@ -297,16 +300,45 @@ class Session:
         """The group that links of a segment routing path have to be in."""
         return self.front.options.group if setup_type == 1 else 0
 
-    def ero(self, answer: Reply, request: Request, setup_type: int) -> tuple[bytes, tuple[tuple[int, int] | None, str] | None]:
+    def question(self, request: Request, setup_type: int) -> rows.Request:
+        """What is asked now for a request. Refused says that more is to be excluded than a row can say."""
+        return request.asked(self.group(setup_type), request.exclusions.text(self.front))
+
+    def is_asked_again(self, request: Request, asked: rows.Request, setup_type: int, answer: Reply | None, line: str | None) -> bool:
+        """Whether the line for what was asked isn't the answer to a request, so that it is asked once more. Refused and Unavailable say
+        that it can't be answered."""
+        exclusions = request.exclusions
+        if answer is None:
+            if line is None or not asked.excluded or not KIND.fullmatch(line):
+                return False
+            request.ignore_exclusions()
+            return True
+        if not exclusions.holds(self.front, asked, answer):
+            exclusions.fail()
+            return True
+        exclusions.tries = 0
+        if exclusions.is_old(answer):
+            return True
+        is_usable = not answer.why and not request.broken(answer.cost) and not self.too_deep(answer, request, setup_type)
+        return not is_usable and exclusions.relax(answer)
+
+    def too_deep(self, answer: Reply, request: Request, setup_type: int) -> str:
+        """Why a route has too many SIDs, in words; empty if it hasn't."""
+        for most, who in ((self.most_sids, "the PCC"), (request.most_sids, "its METRIC of SID depth")) if setup_type == 1 else ():
+            if most is not None and len(answer.fars) > most:
+                return f"its path has {len(answer.fars)} SIDs, and {who} takes {most}"
+        return ""
+
+    def ero(self, answer: Reply, request: Request, asked: rows.Request,
+            setup_type: int) -> tuple[bytes, tuple[tuple[int, int] | None, str] | None]:
         """The ERO of a route, or why there is none: the error that says so, if any, and words."""
         if setup_type == 0:
             return pack(wire.O_ERO, answer.subobjects), None
-        for most, who in ((self.most_sids, "the PCC"), (request.most_sids, "its METRIC of SID depth")):
-            if most is not None and len(answer.fars) > most:
-                return b"", ((10, 3), f"its path has {len(answer.fars)} SIDs, and {who} takes {most}")
-        if not self.front.network.follows(request.asked(self.group(setup_type)), answer):
+        if why := self.too_deep(answer, request, setup_type):
+            return b"", ((10, 3), why)
+        if not self.front.network.follows(asked, answer):
             return b"", (None, "the network isn't known at its version")
-        links = self.front.segments(request.asked().head, answer.fars, answer.version)
+        links = self.front.segments(asked.head, answer.fars, answer.version)
         if links is None:
             return b"", (None, "a link of its path has no SID")
         if 20 * len(links) > wire.MOST - 1000:

@@ -10,8 +10,10 @@ from ..net.tlvs import messages, tlvs
 
 OPEN, KEEPALIVE, REQUEST, REPLY, NOTIFICATION, ERROR, CLOSE, REPORT, UPDATE, INITIATE = 1, 2, 3, 4, 5, 6, 7, 10, 11, 12
 # Classes of objects; the RFC's names of some: O_RRO the reported route, O_BANDWIDTH of type 1 a request's.
-(O_OPEN, O_RP, O_NO_PATH, O_ENDS, O_BANDWIDTH, O_METRIC, O_ERO, O_RRO, O_LSPA, O_IRO, O_SVEC, O_NOTIFICATION, O_ERROR, O_CLOSE, O_OF, O_LSP,
- O_SRP) = 1, 2, 3, 4, 5, 6, 7, 8, 9, 10, 11, 12, 13, 15, 21, 32, 33
+(O_OPEN, O_RP, O_NO_PATH, O_ENDS, O_BANDWIDTH, O_METRIC, O_ERO, O_RRO, O_LSPA, O_IRO, O_SVEC, O_NOTIFICATION, O_ERROR, O_CLOSE, O_XRO, O_OF,
+ O_LSP, O_SRP) = 1, 2, 3, 4, 5, 6, 7, 8, 9, 10, 11, 12, 13, 15, 17, 21, 32, 33
+CLASS, TYPE, PARAMETER = (4, 1), (4, 2), (4, 4)  # what isn't supported
+UNKNOWN_CLASS, UNKNOWN_TYPE = (3, 1), (3, 2)
 T_NO_PATH_VECTOR, T_STATEFUL, T_NAME, T_LSP_IDS, T_LSP_ERROR, T_SR, T_SETUP_TYPE, T_SETUP_TYPES = 1, 16, 17, 18, 20, 26, 28, 34
 T_OVERLOAD = 2  # of a NOTIFICATION: seconds
 IGP_METRIC, TE_METRIC, SID_DEPTH = 1, 2, 11
@@ -43,6 +45,10 @@ class Malformed(Exception):
 
 class Refused(Exception):
     """An Error-Type and an Error-value (RFC 5440 7.15)."""
+
+
+class NeverIgnored(Refused):
+    """The reason to refuse an object whether it has the P flag or not."""
 
 
 class BadObject(Refused):

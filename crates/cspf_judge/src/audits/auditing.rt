@@ -4,21 +4,25 @@
 ghost use Rattle.std.specs.Prelude.{◌≤◌, length, IfOk, IfErr, IfSome};
 ghost use Rattle.cspf_rows.specs.declared.limits.TheConstants.{MOST_ROWS};
 ghost use Rattle.cspf_rows.specs.Records.{rows_of};
-ghost use Rattle.cspf_judge.specs.Audits.{IsAudit};
+ghost use Rattle.cspf_judge.specs.Audits.{IsAuditBy};
 ghost use Rattle.cspf_judge.specs.AuditErrors.{IsAuditOf, IsAuditError};
-ghost use Rattle.cspf_judge.specs.Requests.{HaveOwnIds};
+ghost use Rattle.cspf_judge.specs.QuestionAudits.{IsQuestionAuditOf, IsQuestionAuditError};
+ghost use Rattle.cspf_judge.specs.Requests.{HaveOwnIdsBy};
 ghost use Rattle.cspf_judge.specs.Reading.{ArePlaces, ArePlansUpTo};
 
 use crate::AuditError;
+use crate::audits::asks::Asks;
 use crate::audits::comparing::compare_all;
 use crate::audits::faults::Audit;
 use crate::audits::ids::index_ids;
 use crate::audits::journal::{LawfulJournal, lawful_journal};
 use crate::audits::lines::{ReplyLine, read_lines};
+use crate::audits::question_audit_error::QuestionAuditError;
 use crate::audits::replies::read_replies;
 use crate::audits::reporting::report;
 use cspf_db::Plan;
-use cspf_model::{Batch, Request};
+use cspf_model::Batch;
+use cspf_questions::{QuestionKinds, read_asked};
 use cspf_rows::read_requests;
 use std::alloc::{AllocError, Global};
 use std::collections::BTreeMap;
@@ -48,20 +52,42 @@ pub fn audit<R: Read + Drop, Q: Read + Drop, P: Read + Drop>(
     Ok(audit_lines(alloc, &batches, &plans, &requests, &ids, &lines)?)
 }
 
+/// Audits replies to rows that ask, `ask` rows and the rows of questions of every kind. It does the
+/// same as `audit`. A line has to be the right answer to the row that has its id, and rows of all kinds
+/// have distinct ids. For the row of a question this is the line that answers it.
+pub fn audit_with_questions<R: Read + Drop, Q: Read + Drop, P: Read + Drop>(
+    alloc: Global,
+    journal: R,
+    requests: Q,
+    replies: P,
+) -> Result<Audit, QuestionAuditError>
+    ensures whole { IfOk result (λ audit. IfSome (R.remaining journal) (λ kept.
+        IfSome (Q.remaining requests) (λ asked. IfSome (P.remaining replies) (λ said.
+        IsQuestionAuditOf (rows_of kept) (rows_of asked) said audit)))) }
+    ensures err { IfErr result (IsQuestionAuditError
+        (R.remaining journal) (Q.remaining requests) (P.remaining replies)) }
+{
+    let LawfulJournal { batches, plans } = lawful_journal(alloc, journal)?;
+    let rows = read_asked(alloc, QuestionKinds { except: true }, requests)?;
+    let ids = index_ids(alloc, &rows)?;
+    let said = read_lines(alloc, replies)?;
+    Ok(audit_lines(alloc, &batches, &plans, &rows, &ids, &said)?)
+}
+
 /// Audits the lines of the replies.
-fn audit_lines(
+fn audit_lines<A: Asks>(
     alloc: Global,
     batches: &[Batch],
     plans: &[Plan],
-    requests: &[Request],
+    requests: &[A],
     ids: &BTreeMap<u64, usize>,
     lines: &[ReplyLine],
 ) -> Result<Audit, AllocError>
     requires planned { ArePlansUpTo batches.now plans.now (length batches.now) }
-    requires places { ArePlaces ids.now requests.now }
-    requires own { HaveOwnIds requests.now }
+    requires places { ArePlaces A.spec.id ids.now requests.now }
+    requires own { HaveOwnIdsBy A.spec.id requests.now }
     requires most { length lines.now ≤ MOST_ROWS }
-    ensures { IfOk result (IsAudit batches.now requests.now lines.now) }
+    ensures { IfOk result (IsAuditBy A.spec batches.now requests.now lines.now) }
 {
     let mut replies = read_replies(alloc, lines, requests, ids, batches.len())?;
     replies.claims.sort_by_key(|claim| claim.version)?;

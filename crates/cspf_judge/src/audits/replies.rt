@@ -1,20 +1,18 @@
-//! Reads the head of each line of the replies. The head is the word `ask`, an id and a version. The
-//! rest of the line is compared later.
+//! Reads the head of each line of the replies, such as the word `ask`, an id and a version. The rest
+//! of the line is compared later.
 
 ghost use Rattle.std.specs.Prelude.{◌≡◌, ◌++◌, ◌∷◌, [], ◌<◌, ℕ, List, length, Some, OnOk, IfOk};
 ghost use Rattle.std.specs.BTreeMap.{get};
 ghost use Rattle.std.specs.Ordering.{nat_cmp};
 ghost use Rattle.cspf_model.specs.Numbered.{NumberedChanges};
-ghost use Rattle.cspf_model.specs.declared.request.Request.{Request as AsRequest};
-ghost use Rattle.cspf_judge.specs.Requests.{HaveOwnIds};
+ghost use Rattle.cspf_judge.specs.Requests.{HaveOwnIdsBy};
 ghost use Rattle.cspf_judge.specs.Reading.{ArePlaces, HasReadLines, IsReading};
 
+use crate::audits::asks::Asks;
 use crate::audits::claim::Claim;
 use crate::audits::finding::Finding;
 use crate::audits::lines::ReplyLine;
 use crate::audits::words::is_passed_over;
-use cspf_ero::{one_head, reply_head};
-use cspf_model::Request;
 use std::alloc::{AllocError, Global};
 use std::collections::BTreeMap;
 
@@ -43,17 +41,17 @@ enum Reading {
 
 /// Reads the lines of the replies. `ids` maps the id of each request to the request's index, and
 /// `last` is the highest version of the journal.
-pub(crate) fn read_replies(
+pub(crate) fn read_replies<A: Asks>(
     alloc: Global,
     lines: &[ReplyLine],
-    requests: &[Request],
+    requests: &[A],
     ids: &BTreeMap<u64, usize>,
     last: usize,
 ) -> Result<ReplyFindings, AllocError>
-    requires places { ArePlaces ids.now requests.now }
-    requires own { HaveOwnIds requests.now }
+    requires places { ArePlaces A.spec.id ids.now requests.now }
+    requires own { HaveOwnIdsBy A.spec.id requests.now }
     ensures { IfOk result (λ replies. (batches : List NumberedChanges) → length batches ≡ last
-        → HasReadLines batches requests.now replies lines.now) }
+        → HasReadLines A.spec batches requests.now replies lines.now) }
 {
     let named = vec![in alloc; false; requests.len()]?;
     let mut replies = ReplyFindings {
@@ -62,7 +60,7 @@ pub(crate) fn read_replies(
         named,
     };
     for line in lines {
-        replies.take(line.text(), ids, last)?;
+        replies.take::<A>(alloc, line.text(), ids, last)?;
     }
     Ok(replies)
 }
@@ -71,8 +69,9 @@ impl ReplyFindings {
     /// Adds the finding of the next line of the replies. A claim is also added if this line is the
     /// first one with a request's id and names a version of the journal. A claim says that the line
     /// is still to be compared with the right reply.
-    fn take(
+    fn take<A: Asks>(
         &mut self,
+        alloc: Global,
         line: &[u8],
         ids: &BTreeMap<u64, usize>,
         last: usize,
@@ -80,15 +79,13 @@ impl ReplyFindings {
         requires within { (id index : ℕ) → get nat_cmp ids.now id ≡ Some index
             → index < length self.old.named.items }
         ensures length { OnOk result (length self.new.named.items ≡ length self.old.named.items) }
-        ensures read { OnOk result ((batches : List NumberedChanges) (requests : List AsRequest)
-            (seen : List (List ℕ)) → length batches ≡ last → HaveOwnIds requests
-            → ArePlaces ids.now requests → HasReadLines batches requests self.old seen
-            → HasReadLines batches requests self.new (seen ++ line.now ∷ [])) }
+        ensures read { OnOk result ((batches : List NumberedChanges) (requests : List A)
+            (seen : List (List ℕ)) → length batches ≡ last → HaveOwnIdsBy A.spec.id requests
+            → ArePlaces A.spec.id ids.now requests → HasReadLines A.spec batches requests self.old seen
+            → HasReadLines A.spec batches requests self.new (seen ++ line.now ∷ [])) }
     {
-        // Law: a line begins with at most one id and version.
-        one_head();
         let at = self.findings.len();
-        let finding = match read_reply(line, ids, last, &mut self.named) {
+        let finding = match read_reply::<A>(alloc, line, ids, last, &mut self.named)? {
             Reading::Settled(finding) => finding,
             Reading::Claims(request, version) => {
                 self.claims.push(Claim {
@@ -106,27 +103,33 @@ impl ReplyFindings {
 
 /// Reads the head of a line. If the head has the id of a request, `named` is set to true at the
 /// index of this request.
-fn read_reply(line: &[u8], ids: &BTreeMap<u64, usize>, last: usize, named: &mut [bool]) -> Reading
+fn read_reply<A: Asks>(
+    alloc: Global,
+    line: &[u8],
+    ids: &BTreeMap<u64, usize>,
+    last: usize,
+    named: &mut [bool],
+) -> Result<Reading, AllocError>
     requires within { (id index : ℕ) → get nat_cmp ids.now id ≡ Some index
         → index < length named.old }
-    ensures says { IsReading ids.now last line.now named.old named.new result }
+    ensures says { IfOk result (IsReading A.spec ids.now last line.now named.old named.new) }
     ensures length { length named.new ≡ length named.old }
 {
     if is_passed_over(line) {
-        return Reading::Settled(Finding::PassedOver);
+        return Ok(Reading::Settled(Finding::PassedOver));
     }
-    let Some(head) = reply_head(line) else {
-        return Reading::Settled(Finding::Unread);
+    let Some(head) = A::head(alloc, line)? else {
+        return Ok(Reading::Settled(Finding::Unread));
     };
     let Some(request) = ids.get(&head.id).copied() else {
-        return Reading::Settled(Finding::Foreign);
+        return Ok(Reading::Settled(Finding::Foreign));
     };
     if named[request] {
-        return Reading::Settled(Finding::Doubled);
+        return Ok(Reading::Settled(Finding::Doubled));
     }
     named[request] = true;
     if head.version as usize > last {
-        return Reading::Settled(Finding::NoVersion);
+        return Ok(Reading::Settled(Finding::NoVersion));
     }
-    Reading::Claims(request, head.version)
+    Ok(Reading::Claims(request, head.version))
 }

@@ -6,24 +6,24 @@ ghost use Rattle.cspf_rows.specs.declared.limits.TheConstants.{MOST_ROWS};
 ghost use Rattle.cspf_judge.specs.Audits.{faults_from, good_count, fault_at};
 ghost use Rattle.cspf_judge.specs.Reading.{unnamed_faults};
 
+use crate::audits::asks::Asks;
 use crate::audits::faults::{Audit, AuditFault};
 use crate::audits::finding::Finding;
-use cspf_model::Request;
 use std::alloc::{AllocError, Global};
 
 /// Makes the audit of lines that have these findings. `named` says for each request whether a line
 /// has the request's id.
-pub(crate) fn report(
+pub(crate) fn report<A: Asks>(
     alloc: Global,
     findings: &[Finding],
-    requests: &[Request],
+    requests: &[A],
     named: &[bool],
 ) -> Result<Audit, AllocError>
     requires most { length findings.now ≤ MOST_ROWS }
     requires each { length named.now ≡ length requests.now }
     ensures good { IfOk result (λ audit. audit.good ≡ good_count findings.now) }
     ensures faults { IfOk result (λ audit. audit.faults.items
-        ≡ faults_from 1 findings.now ++ unnamed_faults requests.now named.now) }
+        ≡ faults_from 1 findings.now ++ unnamed_faults A.spec.id requests.now named.now) }
 {
     let mut faults = Vec::new(alloc);
     let good = report_lines(findings, &mut faults)?;
@@ -65,18 +65,18 @@ fn fault_of(line: u32, finding: Finding) -> Option<AuditFault>
 }
 
 /// Adds a fault for each request whose id no line has.
-fn report_requests(
-    requests: &[Request],
+fn report_requests<A: Asks>(
+    requests: &[A],
     named: &[bool],
     faults: &mut Vec<AuditFault>,
 ) -> Result<(), AllocError>
     requires each { length named.now ≡ length requests.now }
     ensures { OnOk result (faults.new.items
-        ≡ faults.old.items ++ unnamed_faults requests.now named.now) }
+        ≡ faults.old.items ++ unnamed_faults A.spec.id requests.now named.now) }
 {
     for (index, request) in requests.iter().enumerate() {
         if !named[index] {
-            faults.push(AuditFault::Unanswered { id: request.id })?;
+            faults.push(AuditFault::Unanswered { id: request.id() })?;
         }
     }
     Ok(())

@@ -9,6 +9,7 @@ ghost use Rattle.cspf_serve.specs.EarlyEnds.{IsErrorOfPart};
 ghost use Rattle.cspf_serve.specs.RunFaults.{IsStreamFault, IsAnsweringFault};
 ghost use Rattle.cspf_work.specs.declared.limits.TheConstants.{MOST_REQUESTS};
 
+use crate::batch::growing::grow_for;
 use crate::streams::replies::write_replies;
 use crate::{Answers, Gate, RunError, ServeError, answer_latest};
 use cspf_model::Request;
@@ -63,6 +64,7 @@ pub(super) fn answer_in_parts<J: Write, W: Write, G: Gate + Sync, T: Threads + S
         (index < length requests.now) × (length publisher.old.batches < version)) e) }
 {
     let mut askers = askers;
+    grow_for(alloc, requests, &mut askers);
     let mut first = 0;
     while first < requests.len() {
         let end = requests.len().min(first + MOST_AT_ONCE);

@@ -24,12 +24,13 @@ use crate::streams::opening::open_for;
 use cspf_client::{Client, Permits, Reopens, Replies, ServedClient, ServingClient};
 use cspf_jobs::{Doer, Go, Meanwhile, NoThread, run_all};
 use cspf_publish::{Asker, MOST_ASKERS, Publisher, SeenSteps};
+use cspf_questions::{AnswersNone, Kinds};
 use cspf_rows::open_records;
 use cspf_stream::{StreamError, answer_rows, put_line};
 use csv::Reader;
 use std::alloc::{AllocError, Global};
 use std::io::{Read, Write};
-use std::marker::{Brand, Model};
+use std::marker::{Brand, Model, PhantomData};
 use std::sync::Wait;
 use std::sync::ledger::{Blank, Ledger};
 use std::thread::Threads;
@@ -80,16 +81,18 @@ pub struct Served<W, J, V> {
 
 /// A client's seat: all that the thread of the client needs to serve the client's sessions.
 #[derive(Drop)]
-struct ClientSeat<'a, T, L: Ledger> {
+struct ClientSeat<'a, T, L: Ledger, K> {
     /// The permits of the run. The client takes one for each request that it sent ahead.
     permits: &'a Permits<'a, T, L>,
     alloc: Global,
     asker: Asker,
     /// The number of the client; clients count from 1.
     number: usize,
+    /// The kinds of questions that are answered.
+    kinds: PhantomData<K>,
 }
 
-impl<'a, T, L: Ledger> Model for ClientSeat<'a, T, L> {
+impl<'a, T, L: Ledger, K> Model for ClientSeat<'a, T, L, K> {
     ghost use Rattle.cspf_serve.specs.ClientSeats.{SeatState};
 
     ghost Value = { SeatState };
@@ -97,13 +100,13 @@ impl<'a, T, L: Ledger> Model for ClientSeat<'a, T, L> {
     ghost view = { λ s. record { asker = s.asker; number = s.number } };
 }
 
-impl<'a, Q: Read + Drop, V: Reopens<Q>, T: Wait, L: Ledger> Doer<Client<Q, V>>
-    for ClientSeat<'a, T, L> {
+impl<'a, Q: Read + Drop, V: Reopens<Q>, T: Wait, L: Ledger, K: Kinds> Doer<Client<Q, V>>
+    for ClientSeat<'a, T, L, K> {
     type Output = ServingClient<Q, V>;
 
     ghost ready = { λ _ _ _. Unit {0} };
 
-    ghost done = { λ s client c. IsAnswered V.reopens Q.remaining V.contents s.asker.source s.number client c };
+    ghost done = { λ s client c. IsAnswered K.kinds V.reopens Q.remaining V.contents s.asker.source s.number client c };
 
     fn work(self, _go: &Go, client: Client<Q, V>) -> ServingClient<Q, V> {
         let ClientSeat {
@@ -111,27 +114,28 @@ impl<'a, Q: Read + Drop, V: Reopens<Q>, T: Wait, L: Ledger> Doer<Client<Q, V>>
             alloc,
             asker,
             number,
+            kinds: _,
         } = self;
-        ServingClient::new(asker, number as u64, client).serve(alloc, permits)
+        ServingClient::new(asker, number as u64, client).serve::<T, L, K>(alloc, permits)
     }
 }
 
 /// The memory that is allocated before any client starts: a seat for each client (all that its
 /// thread needs), and capacity for the states and the results of the clients.
 #[derive(Drop)]
-struct Seats<'a, Q, V, T, L: Ledger> {
-    seats: Vec<ClientSeat<'a, T, L>>,
+struct Seats<'a, Q, V, T, L: Ledger, K> {
+    seats: Vec<ClientSeat<'a, T, L, K>>,
     serving: Vec<ServingClient<Q, V>>,
     served: Vec<ServedClient<V>>,
 }
 
 /// Makes a seat for each asker. A seat has all that the thread of one client needs, and the asker
 /// answers the client's requests. The seats are numbered from 1.
-fn seat_all<'a, Q: Drop, V: Drop, T, L: Ledger>(
+fn seat_all<'a, Q: Drop, V: Drop, T, L: Ledger, K>(
     alloc: Global,
     permits: &'a Permits<'a, T, L>,
     askers: Vec<Asker>,
-) -> Result<Seats<'a, Q, V, T, L>, AllocError>
+) -> Result<Seats<'a, Q, V, T, L, K>, AllocError>
     ensures { IfOk result (λ made. (source : Book) → All (λ a. a.source ≡ source) askers.items
         → AreSeats source (vec_len askers) made) }
 {
@@ -146,6 +150,7 @@ fn seat_all<'a, Q: Drop, V: Drop, T, L: Ledger>(
             alloc,
             asker,
             number,
+            kinds: PhantomData::<K>,
         })?;
     }
     Ok(Seats {
@@ -286,14 +291,14 @@ fn answer_updates<R: Read, W: Write, J: Write, T: Wait>(
 /// Opens a publisher over a journal, and makes a seat for each client, with all that the client's
 /// thread needs. The publisher and the clients' askers (which answer requests) together keep at
 /// most `trees` trees of lower bounds.
-fn open_seats<'a, J: Write, Q: Drop, V: Drop, T: Wait, L: Ledger>(
+fn open_seats<'a, J: Write, Q: Drop, V: Drop, T: Wait, L: Ledger, K>(
     rt: &T,
     alloc: Global,
     permits: &'a Permits<'a, T, L>,
     journal: J,
     clients: usize,
     trees: usize,
-) -> Result<(Publisher<J>, Seats<'a, Q, V, T, L>), (RunError, J)>
+) -> Result<(Publisher<J>, Seats<'a, Q, V, T, L, K>), (RunError, J)>
     requires { (0 < clients) × (clients ≤ MOST_ASKERS) }
     ensures publisher { IfOk result (λ made.
         (made.0.batches ≡ []) × (made.0.stopped ≡ false) × (made.0.journal ≡ journal)) }
@@ -346,6 +351,7 @@ fn serve_under<
     V: Reopens<Q> + Drop + Send,
     T: Threads + Wait + Sync,
     L: Ledger + Send + Sync,
+    K: Kinds + Send,
 >(
     rt: &T,
     alloc: Global,
@@ -357,12 +363,13 @@ fn serve_under<
     trees: usize,
 ) -> Result<Served<W, J, V>, (ServedError, W, J, Vec<Client<Q, V>>)>
     requires { (0 < vec_len clients) × (vec_len clients ≤ MOST_ASKERS) }
-    ensures served { IfOk result (IsServedRun (R.remaining updates) W.contents J.contents
+    ensures served { IfOk result (IsServedRun K.kinds (R.remaining updates) W.contents J.contents
         Q.remaining V.contents V.reopens said journal clients.items) }
     ensures error { IfErr result (λ e. IsServedFault (vec_len clients) e.0) }
     ensures back { IfErr result (λ e. (e.1 ≡ said) × (e.2 ≡ journal) × (e.3 ≡ clients)) }
 {
-    let (publisher, seats) = match open_seats(rt, alloc, permits, journal, clients.len(), trees) {
+    let opened = open_seats::<_, _, _, _, _, K>(rt, alloc, permits, journal, clients.len(), trees);
+    let (publisher, seats) = match opened {
         Ok(opened) => opened,
         Err((error, journal)) => return Err((ServedError::Run(error), said, journal, clients)),
     };
@@ -405,6 +412,7 @@ fn serve_with<
     V: Reopens<Q> + Drop + Send,
     T: Threads + Wait + Sync,
     L: Ledger + Send + Sync,
+    K: Kinds + Send,
 >(
     rt: &T,
     alloc: Global,
@@ -418,14 +426,16 @@ fn serve_with<
     requires clients { (0 < vec_len clients) × (vec_len clients ≤ MOST_ASKERS) }
     requires name { blank.name ≡ L.name }
     requires parts { (options.at_once ≡ blank.parts) × (options.at_once ≡ L.parts) }
-    ensures served { IfOk result (IsServedRun (R.remaining updates) W.contents J.contents
+    ensures served { IfOk result (IsServedRun K.kinds (R.remaining updates) W.contents J.contents
         Q.remaining V.contents V.reopens said journal clients.items) }
     ensures error { IfErr result (λ e. IsServedFault (vec_len clients) e.0) }
     ensures back { IfErr result (λ e. (e.1 ≡ said) × (e.2 ≡ journal) × (e.3 ≡ clients)) }
 {
     let (trees, at_once) = (options.trees, options.at_once as u64);
     match Permits::<T, L>::new(rt, alloc, clients.len(), at_once, blank) {
-        Ok(permits) => serve_under(rt, alloc, &permits, updates, said, journal, clients, trees),
+        Ok(permits) => serve_under::<_, _, _, _, _, _, _, K>(
+            rt, alloc, &permits, updates, said, journal, clients, trees,
+        ),
         Err(_) => {
             let error = ServedError::Run(RunError::Memory);
             Err((error, said, journal, clients))
@@ -461,7 +471,36 @@ pub fn run_serve<
     options: ServedOptions,
 ) -> Result<Served<W, J, V>, (ServedError, W, J, Vec<Client<Q, V>>)>
     requires { (0 < vec_len clients) × (vec_len clients ≤ MOST_ASKERS) }
-    ensures served { IfOk result (IsServedRun (R.remaining updates) W.contents J.contents
+    ensures served { IfOk result (IsServedRun (record { except = false }) (R.remaining updates) W.contents J.contents
+        Q.remaining V.contents V.reopens said journal clients.items) }
+    ensures error { IfErr result (λ e. IsServedFault (vec_len clients) e.0) }
+    ensures back { IfErr result (λ e. (e.1 ≡ said) × (e.2 ≡ journal) × (e.3 ≡ clients)) }
+{
+    run_serve_with_questions::<_, _, _, _, _, _, AnswersNone>(
+        rt, alloc, updates, said, journal, clients, options,
+    )
+}
+
+/// As `run_serve`, but the clients' questions of the kinds `K` are answered, too.
+pub fn run_serve_with_questions<
+    R: Read + Drop,
+    W: Write,
+    J: Write,
+    Q: Read + Drop + Send,
+    V: Reopens<Q> + Drop + Send,
+    T: Threads + Wait + Sync,
+    K: Kinds + Send,
+>(
+    rt: &T,
+    alloc: Global,
+    updates: R,
+    said: W,
+    journal: J,
+    clients: Vec<Client<Q, V>>,
+    options: ServedOptions,
+) -> Result<Served<W, J, V>, (ServedError, W, J, Vec<Client<Q, V>>)>
+    requires { (0 < vec_len clients) × (vec_len clients ≤ MOST_ASKERS) }
+    ensures served { IfOk result (IsServedRun K.kinds (R.remaining updates) W.contents J.contents
         Q.remaining V.contents V.reopens said journal clients.items) }
     ensures error { IfErr result (λ e. IsServedFault (vec_len clients) e.0) }
     ensures back { IfErr result (λ e. (e.1 ≡ said) × (e.2 ≡ journal) × (e.3 ≡ clients)) }
@@ -471,7 +510,7 @@ pub fn run_serve<
         at_once: options.at_once.max(1),
     };
     let blank = Blank::new(options.at_once as u64);
-    serve_with::<_, _, _, _, _, _, Brand>(
+    serve_with::<_, _, _, _, _, _, Brand, K>(
         rt, alloc, updates, said, journal, clients, options, blank,
     )
 }

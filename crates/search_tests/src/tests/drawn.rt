@@ -97,7 +97,7 @@ const HOPS: [&[u8]; 6] = [
 ];
 
 // A request with these hops between two random routers.
-fn drawn_request(seed: &mut u32, hops: &[u8]) -> Result<Request, Fail> {
+pub(super) fn drawn_request(seed: &mut u32, hops: &[u8]) -> Result<Request, Fail> {
     let from = draw(seed) % 12;
     let to = from + 1 + draw(seed) % 11;
     request((router(from), router(to)), 0, (0, 0, 0), hops)
@@ -106,14 +106,14 @@ fn drawn_request(seed: &mut u32, hops: &[u8]) -> Result<Request, Fail> {
 // A network and its routers that are marked as without transit, with two tables: `marked`, in which
 // these routers are marked, and `open`, which comes from `unmarked` and has no marked router.
 #[derive(Drop)]
-struct DrawnNetwork {
+pub(super) struct DrawnNetwork {
     rows: Vec<Row>,
     marks: Vec<u32>,
-    marked: Table,
+    pub(super) marked: Table,
     open: Table,
 }
 
-fn drawn_network(alloc: Global, seed: &mut u32) -> Result<DrawnNetwork, Fail> {
+pub(super) fn drawn_network(alloc: Global, seed: &mut u32) -> Result<DrawnNetwork, Fail> {
     let (rows, marks) = (drawn(alloc, seed)?, drawn_marks(alloc, seed)?);
     let mut marked = one_way(alloc, &rows)?;
     mark(alloc, &mut marked, &marks)?;
@@ -210,7 +210,7 @@ fn drawn_routes(alloc: Global, seed: &mut u32, trees: &mut Trees) -> Result<u32,
 fn drawn_networks(rt: HostRuntime) -> Result<(), Fail> {
     let mut seed = 2463534242;
     let mut routes = 0u32;
-    let mut trees = Trees::new(rt.alloc(), MOST_TREES);
+    let mut trees = Trees::from_ask(rt.alloc(), MOST_TREES, 6);
     for _network in 0..125 {
         routes = routes.saturating_add(drawn_routes(rt.alloc(), &mut seed, &mut trees)?);
     }

@@ -12,7 +12,7 @@ use super::{
 use cspf_addr::{Addr, Hop, Hops, MOST_HOPS, Mask, Prefix};
 use cspf_model::{Batch, Change, Outcome, Request};
 use cspf_search::best_by_rounds;
-use cspf_trees::TreeTable;
+use cspf_trees::{Growth, MOST_TREES, TreeTable};
 use std::alloc::Global;
 use std::test::Fail;
 
@@ -103,7 +103,7 @@ fn back(row: &Row) -> Row {
 
 // A table with trees that has absorbed these changes, which must fit.
 fn table_after(alloc: Global, changes: Vec<Change>) -> Result<TreeTable, Fail> {
-    let mut table = TreeTable::new(alloc)?;
+    let mut table = TreeTable::with_growth(alloc, MOST_TREES, Growth::FromAsk(6))?;
     table.try_absorb(&Batch { number: 1, changes })?;
     Ok(table)
 }

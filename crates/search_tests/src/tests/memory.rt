@@ -1,11 +1,13 @@
-//! Trees while allocations are refused: each request gets its answer or an allocation error. Once
-//! allocations succeed again, each request gets its answer.
+//! Trees and pairs while allocations are refused: each request gets its answer or an allocation
+//! error. Once allocations succeed again, each request gets its answer.
 
 ghost use Rattle.cspf_trees.specs.Trees.{AreTreesOf};
 
-use super::{ONE, TWO, is_route, link, request, table_of};
+use super::{ONE, TWO, is_along, is_route, link, request, table_of};
 use cspf_db::Table;
+use cspf_disjoint::{PairError, best_pair};
 use cspf_model::{Change, Request};
+use cspf_pair::{Kind, PairOutcome, PairRequest};
 use cspf_trees::{MOST_TREES, Trees};
 use std::alloc::{AllocError, Global};
 use std::test::Fail;
@@ -44,7 +46,7 @@ fn are_routes_after(
     request: &Request,
 ) -> Result<bool, AllocError> {
     let table = table_of(alloc, changes)?;
-    let mut trees = Trees::new(alloc, MOST_TREES);
+    let mut trees = Trees::from_ask(alloc, MOST_TREES, 6);
     are_routes(alloc, &table, request, &mut trees)
 }
 
@@ -58,6 +60,44 @@ fn answers_by_trees_while_memory_is_refused(rt: HostRuntime) -> Result<(), Fail>
     let found = match are_routes_after(alloc, &changes, &asked) {
         Err(_refused) => !has_memory(alloc)
             || are_routes_after(alloc, &changes, &asked) == Ok(true),
+        found => found == Ok(true),
+    };
+    assert!(rt; found);
+    Ok(())
+}
+
+// Whether the request gets its pair of ways of one link each, from a new table that has absorbed
+// these changes.
+fn is_pair_after(
+    alloc: Global,
+    changes: &[Change],
+    request: &PairRequest,
+) -> Result<bool, PairError> {
+    let table = table_of(alloc, changes)?;
+    match best_pair(alloc, &table, request)? {
+        PairOutcome::Pair(one, other) => {
+            Ok(is_along(&one, 10, &[2]) && is_along(&other, 20, &[4]))
+        }
+        _ => Ok(false),
+    }
+}
+
+#[test]
+fn answers_pairs_while_memory_is_refused(rt: HostRuntime) -> Result<(), Fail> {
+    let alloc = rt.alloc();
+    let changes = [
+        Change::Put(link(&(ONE, 1, TWO, 2, 10, 1000))?),
+        Change::Put(link(&(TWO, 2, ONE, 1, 10, 0))?),
+        Change::Put(link(&(ONE, 3, TWO, 4, 20, 1000))?),
+        Change::Put(link(&(TWO, 4, ONE, 3, 20, 0))?),
+    ];
+    let asked = PairRequest {
+        request: request((ONE, TWO), 0, (0, 0, 0), b"")?,
+        kind: Kind::Routers,
+    };
+    let found = match is_pair_after(alloc, &changes, &asked) {
+        Err(PairError::Memory) => !has_memory(alloc)
+            || is_pair_after(alloc, &changes, &asked) == Ok(true),
         found => found == Ok(true),
     };
     assert!(rt; found);

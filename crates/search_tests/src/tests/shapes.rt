@@ -1,6 +1,6 @@
-//! Networks of seven shapes, drawn at random. Requests are answered with trees of lower bounds,
-//! which are grown at the first request, and by the search from both ends. They must get the answers
-//! of the search by rounds.
+//! Networks of nine shapes, drawn at random. Requests are answered with trees of lower bounds, which
+//! are grown at the first request, by `best`, and by the search from both ends. They must get the
+//! answers of the search by rounds.
 
 ghost use Rattle.cspf_trees.specs.Trees.{AreTreesOf};
 
@@ -9,7 +9,7 @@ use cspf_addr::{Addr, Mask};
 use cspf_db::Table;
 use cspf_meet::best_from_both_ends;
 use cspf_model::{Change, Link, Request};
-use cspf_search::best_by_rounds;
+use cspf_search::{best, best_by_rounds};
 use cspf_trees::{MOST_TREES, Trees};
 use std::alloc::Global;
 use std::test::Fail;
@@ -45,6 +45,12 @@ fn circuit(seed: &mut u32, shape: u32, number: u32) -> (u32, u32) {
         5 if number < 36 => (number, (number + 1) % 36),
         // four circuits join each router to the next one
         6 => (number / 4, number / 4 + 1),
+        // each half of the routers forms a cycle, and four circuits join the halves
+        7 if number < 18 => (number, (number + 1) % 18),
+        7 if number < 36 => (number, 18 + (number - 17) % 18),
+        7 if number < 40 => (draw(seed) % 18, 18 + draw(seed) % 18),
+        // circuits join random pairs of routers, so that some routers may have no circuit
+        8 if number < 64 => (draw(seed) % 36, draw(seed) % 36),
         _ => (0, 0),
     }
 }
@@ -81,8 +87,8 @@ fn shaped_link(seed: &mut u32, kind: u32, from: (u32, u32), to: (u32, u32)) -> R
     Ok(link?)
 }
 
-// A table of a network of this shape, with metrics of this kind. One in three such networks has a
-// router that is marked as without transit.
+// A table of a network of this shape, with metrics of this kind. One in 32 circuits has a link in
+// one direction only. One in three such networks has a router that is marked as without transit.
 fn shaped_table(alloc: Global, seed: &mut u32, shape: u32, kind: u32) -> Result<Table, Fail> {
     let mut changes = Vec::new(alloc);
     for number in 0..CIRCUITS {
@@ -93,7 +99,9 @@ fn shaped_table(alloc: Global, seed: &mut u32, shape: u32, kind: u32) -> Result<
         let from = (from, draw(seed) % 4 * 4096 + 2 * number);
         let to = (to, draw(seed) % 4 * 4096 + 2 * number + 1);
         changes.push(Change::Put(shaped_link(seed, kind, from, to)?))?;
-        changes.push(Change::Put(shaped_link(seed, kind, to, from)?))?;
+        if draw(seed) % 32 > 0 {
+            changes.push(Change::Put(shaped_link(seed, kind, to, from)?))?;
+        }
     }
     if draw(seed) % 3 == 0 {
         changes.push(Change::Node {
@@ -130,10 +138,10 @@ fn shaped_request(seed: &mut u32) -> Result<Request, Fail> {
     request(ends, 0, masks, hops)
 }
 
-// Whether the trees give the same answer to a request as the search by rounds. If the request has
-// no hops, the search from both ends must find this answer, too. If the request has
-// hops, it is first answered without its hops, so that there is a tree for its tail-end and
-// affinities.
+// Whether the trees and `best` give the same answer to a request as the search by rounds. If the
+// request has no hops, the search from both ends must find this answer, too, and leave no request
+// open. If the request has hops, it is first answered without its hops, so that there is a tree for
+// its tail-end and affinities.
 fn agree(alloc: Global, table: &Table, request: &Request, trees: &mut Trees) -> Result<bool, Fail>
     requires { AreTreesOf table.now trees.old }
     ensures { AreTreesOf table.now trees.new }
@@ -143,15 +151,15 @@ fn agree(alloc: Global, table: &Table, request: &Request, trees: &mut Trees) -> 
     }
     let found = trees.best(alloc, table, request)?;
     let wanted = best_by_rounds(alloc, table, request)?;
+    let plain = best(alloc, table, request)?;
     let met = match best_from_both_ends(alloc, table, request)? {
         Some(outcome) => is_same(&outcome, &wanted),
         None => !request.hops.is_empty(),
     };
-    Ok(met && is_same(&found, &wanted))
+    Ok(met && is_same(&found, &wanted) && is_same(&plain, &wanted))
 }
 
-// The number of those among 200 requests to which the trees of the table and the search by rounds
-// give the same answer.
+// The number of those among 200 requests to which all searches give the same answer.
 fn count_agreed(
     alloc: Global,
     seed: &mut u32,
@@ -171,9 +179,8 @@ fn count_agreed(
     Ok(count)
 }
 
-// The number of those among 200 requests in a new network to which the trees and the search by
-// rounds give the same answer. The network has this shape and metrics of this kind. `trees` is
-// cleared first.
+// The number of those among 200 requests in a new network to which all searches give the same
+// answer. The network has this shape and metrics of this kind. `trees` is cleared first.
 fn agreed(
     alloc: Global,
     seed: &mut u32,
@@ -187,22 +194,22 @@ fn agreed(
 }
 
 // Requests that are answered with trees of lower bounds, grown at the first request, get the
-// answers of the search by rounds. So do requests without hops in the search from both ends, which
-// leaves no request open. The test checks 100,800 requests in 504 networks.
+// answers of the search by rounds. So do they by `best`, and requests without hops by the search from
+// both ends, which leaves no request open. The test checks 201,600 requests in 1,008 networks.
 #[test]
 fn shapes(rt: HostRuntime) -> Result<(), Fail> {
     let mut seed = 2463534242;
     let mut count = 0u32;
     let mut trees = Trees::from_ask(rt.alloc(), MOST_TREES, 1);
-    for network in 0..504 {
+    for network in 0..1008 {
         count = count.saturating_add(agreed(
             rt.alloc(),
             &mut seed,
-            network % 7,
-            network / 7 % 3,
+            network % 9,
+            network / 9 % 3,
             &mut trees,
         )?);
     }
-    assert!(rt; count == 504 * 200, "{count}");
+    assert!(rt; count == 1008 * 200, "{count}");
     Ok(())
 }

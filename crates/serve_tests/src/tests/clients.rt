@@ -16,6 +16,7 @@ use cspf_client::{
 };
 use cspf_model::{Batch, Change, Link};
 use cspf_publish::{Publisher, open};
+use cspf_serve::AnswersNone;
 use std::alloc::Global;
 use std::io;
 use std::io::{ErrorKind, Write};
@@ -78,7 +79,7 @@ fn run_with<R: Wait + Abort, L: Ledger>(
     ensures { HasGoneForward serving.old.state serving.new.state }
 {
     match Permits::<R, L>::new(rt, alloc, 1, 1, blank) {
-        Ok(permits) => serving.run(alloc, &permits),
+        Ok(permits) => serving.run::<R, L, AnswersNone>(alloc, &permits),
         Err(_) => panic!(rt; "no permits"),
     }
 }

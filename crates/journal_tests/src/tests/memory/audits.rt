@@ -2,7 +2,7 @@
 //! memory is available again, the audit returns the whole result.
 
 use crate::tests::assert_case;
-use cspf_judge::{AuditError, AuditFault, audit};
+use cspf_judge::{AuditError, AuditFault, QuestionAuditError, audit, audit_with_questions};
 use std::alloc::Global;
 use std::test::Fail;
 
@@ -49,5 +49,32 @@ fn audits_while_memory_is_refused(rt: HostRuntime) -> Result<(), Fail> {
         found => found == Ok(true),
     };
     assert_case(&rt, REPLIES, found);
+    Ok(())
+}
+
+/// A request, and a question for a route without the only circuit.
+const ASKED: &[u8] = b"ask,7,1.1.1.1,2.2.2.2,0,1000,0x0,0x0,0x0,\n\
+except,8,1.1.1.1,2.2.2.2,0,1000,0x0,0x0,0x0,,10.0.12.0/30i 2.2.2.2/32r\n";
+
+/// The replies to both, of which the one to the question is for version 1.
+const ANSWERS: &[u8] = b"except 8 v1 none\nask 7 v1 \
+route cost=10 hops=1 again=no ero=000c140101080a000c022000\n";
+
+/// Whether the audit finds that both replies are good.
+fn both_are_good(alloc: Global) -> Result<bool, QuestionAuditError> {
+    let found = audit_with_questions(alloc, JOURNAL, ASKED, ANSWERS)?;
+    Ok(found.good == 2 && found.faults.is_empty())
+}
+
+#[test]
+fn audits_with_questions_while_memory_is_refused(rt: HostRuntime) -> Result<(), Fail> {
+    let alloc = rt.alloc();
+    let found = match both_are_good(alloc) {
+        Err(QuestionAuditError::Audit(AuditError::Memory)) => {
+            !has_memory(alloc) || both_are_good(alloc) == Ok(true)
+        }
+        found => found == Ok(true),
+    };
+    assert_case(&rt, ANSWERS, found);
     Ok(())
 }

@@ -10,6 +10,7 @@ use cspf_client::{
 };
 use cspf_model::Batch;
 use cspf_publish::{Publisher, open};
+use cspf_serve::AnswersNone;
 use cspf_stream::StreamError;
 use std::alloc::Global;
 use std::io;
@@ -122,7 +123,7 @@ fn serve_with<'a, R: Wait + Abort, L: Ledger>(
 {
     match Permits::<R, L>::new(rt, alloc, 1, 1, blank) {
         Ok(permits) => {
-            let client = client.serve(alloc, &permits);
+            let client = client.serve::<R, L, AnswersNone>(alloc, &permits);
             let known = client.known().copy();
             client.close(known)
         }

@@ -22,12 +22,12 @@ returns-clause-run g c =
       end = c.answer_all-self-inside.result;
       refused_before = c.self.inside.refused_before;
     } in
-    subst (λ (s : ServingState g.row.Q.Denot g.row.V.Denot). IsClientRun g.Q.Read.remaining g.V.Write.contents s after) c.self.view_is
-    (run_of g.Q.Read.remaining g.V.Write.contents before after c.in-Some.requests (sym c.in-Some.ensures.value) c.answer_all-self-inside.result
+    subst (λ (s : ServingState g.row.Q.Denot g.row.V.Denot). IsClientRun g.K.Kinds.kinds g.Q.Read.remaining g.V.Write.contents s after) c.self.view_is
+    (run_of g.K.Kinds.kinds g.Q.Read.remaining g.V.Write.contents before after c.in-Some.requests (sym c.in-Some.ensures.value) c.answer_all-self-inside.result
     refl (rw (c.end.ensures.same, sym c.open_records-rows.ensures.rows) e.whole) (rw (c.end.ensures.same, sym c.open_records-rows.ensures.rows) e.stopped))
 
 pub returns-clause-forward : goal.returns-clause-forward
 returns-clause-forward g c =
     let e = c.answer_all-self-inside.ensures in
     rw (← c.self.view_is)
-    (forward_stream _ c.self.inside.session c.answer_all-self-inside.new.session _ _ c.answer_all-self-inside.result e.whole e.stopped)
+    (forward_stream g.K.Kinds.kinds _ c.self.inside.session c.answer_all-self-inside.new.session _ _ c.answer_all-self-inside.result e.whole e.stopped)

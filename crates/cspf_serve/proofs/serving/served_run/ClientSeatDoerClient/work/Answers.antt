@@ -6,7 +6,7 @@ use Rattle.cspf_serve.proofs.serving.served_run.ClientSeatDoerClient.work.Goals 
 
 pub returns : goal.returns
 returns g c =
-    subst (λ (s : SeatState). IsAnswered g.V.Reopens.reopens g.Q.Read.remaining g.V.Write.contents s.asker.source s.number c.args.client c.serve.result) c.self.view_is (record {
+    subst (λ (s : SeatState). IsAnswered g.K.Kinds.kinds g.V.Reopens.reopens g.Q.Read.remaining g.V.Write.contents s.asker.source s.number c.args.client c.serve.result) c.self.view_is (record {
       before = c.new.result;
       number_is = c.new.ensures.number;
       source_is = ap (λ (k : KnownBatches). k.source) c.new.ensures.known;

@@ -1,0 +1,8 @@
+-- The lemmas on excluded links.
+pub mod ListedItems
+pub mod ChangesInParts
+pub mod Removed
+pub mod WithoutLinks
+pub mod EndsOfRoutes
+pub mod BestAnswers
+pub mod BestOnce

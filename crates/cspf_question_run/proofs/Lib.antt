@@ -1,0 +1,2 @@
+-- The lemmas on runs that also answer questions.
+pub mod QuestionRuns

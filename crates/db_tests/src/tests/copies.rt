@@ -1,0 +1,77 @@
+//! Copies of a table: a copy has the same links, routers and marks, and batches that it absorbs
+//! don't change the table.
+use super::edits::Edit::{self, Node, Put, Remove};
+use super::edits::{assert_case, batch_of};
+use cspf_addr::Addr;
+use cspf_db::Table;
+use std::alloc::Global;
+use std::test::Fail;
+
+// A circuit between the routers 1 and 2, a link from router 2 to router 3, and marks of the router 3
+// and of an address that is no router.
+const FIRST: &[Edit] = &[
+    Put(1, 11, 2, 22),
+    Put(2, 22, 1, 11),
+    Put(2, 23, 3, 33),
+    Node(3, false),
+    Node(9, false),
+];
+
+// Removes a link, puts another one, and takes a mark away.
+const NEXT: &[Edit] = &[Remove(2, 23), Put(1, 14, 4, 44), Node(3, true)];
+
+// The routers, as numbers.
+fn numbers(alloc: Global, routers: &[Addr]) -> Result<Vec<u32>, Fail> {
+    let mut all = Vec::new(alloc);
+    for router in routers {
+        all.push(router.number())?;
+    }
+    Ok(all)
+}
+
+// Whether the table has these routers, these marks, and this number of links.
+fn has(
+    alloc: Global,
+    table: &Table,
+    routers: &[u32],
+    marks: &[u32],
+    links: usize,
+) -> Result<bool, Fail> {
+    let same = numbers(alloc, table.routers())?.as_slice() == routers;
+    let marked = numbers(alloc, table.marks())?.as_slice() == marks;
+    Ok(same && marked && table.links().len() == links)
+}
+
+#[test]
+fn copies_of_a_table(rt: HostRuntime) -> Result<(), Fail> {
+    let alloc = rt.alloc();
+    let mut table = Table::new(alloc)?;
+    assert_case(
+        &rt,
+        "no links",
+        0,
+        has(alloc, &table.try_clone(alloc)?, &[], &[], 0)?,
+    );
+    table.try_absorb(&batch_of(alloc, FIRST)?)?;
+    let mut copy = table.try_clone(alloc)?;
+    assert_case(&rt, "a copy", 1, has(alloc, &copy, &[1, 2, 3], &[3, 9], 3)?);
+    copy.try_absorb(&batch_of(alloc, NEXT)?)?;
+    assert_case(
+        &rt,
+        "a changed copy",
+        2,
+        has(alloc, &copy, &[1, 2, 4], &[9], 3)?,
+    );
+    assert_case(
+        &rt,
+        "the table",
+        3,
+        has(alloc, &table, &[1, 2, 3], &[3, 9], 3)?,
+    );
+    let reversed = match copy.links().first() {
+        Some(link) => copy.has_reverse(link) && copy.transit(Addr::new(3)),
+        None => false,
+    };
+    assert_case(&rt, "reverses and transit of a copy", 4, reversed);
+    Ok(())
+}
