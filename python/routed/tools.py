@@ -20,6 +20,7 @@ TOOLS = {
     "listen": (".front.listen", "sockets in front of `routed serve`, for programs that come and go"),
     "connect": (".front.connect", "standard input and output at a socket of listen"),
     "ask": (".ask.ask", "one request by names and units, and why it has no route"),
+    "beside": (".ask.beside", "the row that asks for a path beside that of a reply, without its circuits and their SRLGs"),
     "show": (".show.show", "the network of a running server as a table, and what changed in it"),
     "status": (".front.status", "one screen of the figures of listen, pcep, page or a feed"),
     "audit": (".audit", "`routed audit`, and how far it is"),

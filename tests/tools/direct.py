@@ -16,9 +16,12 @@ from program.serving import BATCHES, PATIENCE, ROUTERS, batches_of
 from reference import changes
 from reference.versions import Versions
 from tools.directed import IDS, PROGRAMS, ROW, Busy, Direct, Judge, files_of, fronted, run, soon
-from tools.flooded import TOGETHER, beside, counted, floods, lineless, marked
+from tools.flooded import TOGETHER, floods
 from tools.fronts import Connection, Front
+from tools.handed import HANDED
+from tools.honest import asking, overdue, sleeping
 from tools.reading import PAIR, eventually, figures_of
+from tools.streams import closed
 
 from routed import Client, Refused, Request
 from routed.follow import asks
@@ -28,8 +31,8 @@ from routed.net.loop import Loop
 
 TURNS = int(os.environ.get("TURNS", "500"))  # connections in turn; the gate has few
 SOON = 3  # seconds until the place of a program that has hung up is another's
-LATE = 0.1  # seconds in which another client is answered
-SHARES = 0.01, 0.1  # of its asks that a busy machine may delay: directly, and by the relay, which needs a processor, too
+LATE = 0.1  # seconds in which another client is answered, but for those in which somebody on the way waits for a processor
+SLEEPERS = 2  # programs that only sleep: how late they are woken says how late the server and the client are. The kernel says it of listen
 WARNINGS = ["-std=c11", "-Wall", "-Wextra", "-Werror", "-pedantic"]
 
 
@@ -40,8 +43,8 @@ def direct(program, checks):
     rows = [f"ask,{at},10.0.0.{at},10.0.0.{(at * 5 + 1) % ROUTERS},{at % 8},{draw.choice([0, 5])},0x0,0x0,0x0," for at in range(ROUTERS)]
     versions = Versions(updates, rows)
     with tempfile.TemporaryDirectory() as room:
-        checks.parts_in(room, (ends, modes, refusals, heirs, shares, tallied, clients, shared, in_c, floods, beside, marked, counted,
-                               lineless, in_turn), program, checks, versions)
+        checks.parts_in(room, (ends, modes, refusals, heirs, shares, tallied, clients, shared, in_c, floods, in_turn,
+                               *map(closed, HANDED)), program, checks, versions)
     print(f"direct: {TURNS} connections in turn, {TOGETHER} that flood, {time.monotonic() - start:.0f} s")
 
 
@@ -274,22 +277,6 @@ def in_c(program, checks, versions, room):
 # ---- connections in turn
 
 
-class Honest(threading.Thread):
-    """A client that waits for each line, and the seconds that each took."""
-
-    def __init__(self, made, judge):
-        super().__init__(daemon=True)
-        self.made, self.judge, self.times, self.faults, self.is_over = made, judge, [], [], False
-
-    def run(self):
-        while not self.is_over:
-            start = time.monotonic()
-            line = self.made.talk(self.judge.rows(1))
-            self.times.append(time.monotonic() - start)
-            self.faults += filter(None, [self.judge.fault(line)])
-            time.sleep(0.002)
-
-
 def in_turn(program, checks, versions, room):
     """Programs that come one after the other, some of which are killed: each line is a reply to its own program's row."""
     front, place = fronted(program, room)
@@ -298,9 +285,8 @@ def in_turn(program, checks, versions, room):
         updating = Connection(front.updates)
         updating.talk(batches[0])
         before = files_of(front)
-        others = [Honest(soon(place), Judge(versions, 1)), Honest(Connection(front.ask), Judge(versions, IDS // 2))]
-        for other in others:
-            other.start()
+        others = [asking(soon(place), Judge(versions, 1)), asking(Connection(front.ask), Judge(versions, IDS // 2), front.child.pid)]
+        sleepers = [sleeping() for _ in range(SLEEPERS)]
         hearing, told = os.pipe()
         said, running, killed, version = [], {}, 0, 1
         reading = threading.Thread(target=lambda: said.extend(iter(lambda: os.read(hearing, 1 << 16), b"")))
@@ -315,10 +301,7 @@ def in_turn(program, checks, versions, room):
         while running:
             killed += ended(running, 0)
         os.close(told)
-        for other in others:
-            other.is_over = True
-            other.join()
-            other.made.leave()
+        asked, naps = [other.end() for other in others], [sleeper.end() for sleeper in sleepers]
         reading.join(PATIENCE)
         lines = b"".join(said).decode().splitlines()
         heard = [int(line) for line in lines if re.fullmatch(r"\d+", line)]
@@ -327,12 +310,14 @@ def in_turn(program, checks, versions, room):
         found = len(heard), sum(heard), killed
         checks.true("programs that read lines, their lines, and programs that were killed",
                     all(map(int.__gt__, found, (TURNS // 4, TURNS, TURNS // 20))), found)
-        for name, share, other in zip(("direct", "relayed"), SHARES, others):
-            late = sum(time > LATE for time in other.times)
-            checks.same(f"another client, {name}: its lines", other.faults[:5], [])
-            found = late, len(other.times), max(other.times)
-            checks.true(f"another client, {name}, is answered soon", late <= len(other.times) * share, found)
-            print(f"direct: beside them another client, {name}: {len(other.times)} asks, {max(other.times) * 1000:.1f} ms at most")
+        for name, asks_of in zip(("direct", "relayed"), asked):
+            checks.same(f"another client, {name}: its lines", [fault for *_, fault in asks_of if fault][:5], [])
+            times = [(end - start, waited + sum(overdue(nap, start, end) for nap in naps)) for start, end, waited, _ in asks_of]
+            late = [(took, waited) for took, waited in times if took > LATE + waited]
+            checks.same(f"another client, {name}, is answered soon, but for waits for a processor", late[:5], [])
+            longest = [1000 * seconds for seconds in max(times)]
+            print(f"direct: beside them another client, {name}: {len(times)} asks, {longest[0]:.1f} ms at most, with waits for a processor "
+                  f"of {longest[1]:.1f} ms")
         eventually(checks, "all have ended", lambda: figures_of(room).get(("routed_connections", "direct")), 0)
         together = [soon(place) for _ in range(64)]
         checks.same("each seat can be had", {re.sub(r" v\d+ .*", "", one.talk(ROW % 7)) for one in together}, {"ask 7\n"})

@@ -11,10 +11,11 @@ import time
 from program.serving import PATIENCE
 from tools.directed import Busy, Direct, soon
 from tools.ended import of_feed, of_pcep, of_server
-from tools.fronts import Connection, Front, admitted
+from tools.fronts import Connection, Front, admitted, busy
 from tools.plants import ENDED, left, plant, planted
 from tools.reading import ASKS, PAIR, answered, eventually, figures_of, sent
 
+from routed.front.seats import LATE
 from routed.net import endpoints, http, loop
 from routed.net.endpoints import Stopped
 
@@ -23,8 +24,8 @@ ASK, REPLY = ASKS["route"], re.compile(r"ask 1 v\d+ (?:route .*|unknown-from)\n"
 
 def exceptions(program, checks):
     with tempfile.TemporaryDirectory() as room:
-        checks.parts_in(room, (of_loop, of_door, of_listen, of_streams, of_direct, of_updates, of_idle, of_pcep, of_server, of_feed),
-                        program, checks)
+        checks.parts_in(room, (of_loop, of_door, of_listen, of_streams, of_direct, of_seats, of_updates, of_idle, of_pcep, of_server,
+                               of_feed), program, checks)
 
 
 # ---- without sockets
@@ -271,13 +272,13 @@ def of_direct(program, checks, room):
         for place in ("Direct.begin", "Direct.begin!", "Direct.read", "Direct.hang_up", "Direct.over", "Direct.finish"):
             victim = None if "begin" in place else soon(os.path.join(room, "direct"))
             seen.plant(place)
-            if victim is None:
+            if place in ("Direct.over", "Direct.finish"):
+                victim.say('"')
+            elif victim:  # what is read there ends it; a session may end before a client's own end is seen
+                victim.socket.sendall(b"x")
+            while victim is None and left(room):  # the seat may be busy yet
                 with contextlib.suppress(Busy):
                     victim = Direct(os.path.join(room, "direct"))
-            elif place in ("Direct.over", "Direct.finish"):
-                victim.say('"')
-            else:  # what is read there ends it; a session may end before a client's own end is seen
-                victim.socket.sendall(b"x")
             seen.judge(checks, place, r"direct \d+")
             if victim:
                 checks.same(f"{place}: it has no more lines", victim.lines.rest(), [])
@@ -285,6 +286,30 @@ def of_direct(program, checks, room):
             following = soon(os.path.join(room, "direct"))
             checks.true(f"{place}: the next one", REPLY.fullmatch(following.talk(ASK)))
             following.close()
+
+
+def of_seats(program, checks, room):
+    """A seat that fails where a session ends isn't used again: its connection ends, others go on, and there is one place fewer."""
+    kinds = [(place, is_direct) for place in ("Seat.begin", "Seat.renew", "Seat.renew!") for is_direct in (False, True)]
+    with Seen(program, room, "--clients", str(len(kinds) + 1), "--direct", os.path.join(room, "direct")) as seen:
+        for at, (place, is_direct) in enumerate(kinds):
+            name = f"{place}, {'direct' if is_direct else 'relayed'}"
+            others = [admitted(seen.front.ask, ASK)[0] for _ in range(len(kinds) - at - 1)]
+            victim = Direct(os.path.join(room, "direct")) if is_direct else Connection(seen.front.ask)
+            checks.true(f"{name}: its lines", REPLY.fullmatch(victim.talk(ASK)))
+            seen.plant(place)
+            start = time.monotonic()
+            checks.same(f"{name}: it ends", victim.leave(), ("", b"") if is_direct else "")
+            checks.true(f"{name}: it ends soon", time.monotonic() < start + LATE / 2)
+            seen.judge(checks, name, r"seat \d+")
+            line = seen.front.errors.next()
+            checks.true(f"{name}: a second line", re.fullmatch(r"listen: seat \d+ isn't used again\n", line), line)
+            checks.same(f"{name}: one place fewer", [busy(seen.front.ask) for _ in range(2)], ["busy\n"] * 2)
+            for one in others:
+                checks.true(f"{name}: others go on", REPLY.fullmatch(one.talk(ASK)))
+                one.leave()
+        checks.same("places that are left", [busy(seen.front.ask) for _ in range(2)], ["busy\n"] * 2)
+        checks.same("connections that are open", [figures_of(room)["routed_connections", place] for place in ("ask", "direct")], [1, 0])
 
 
 def of_updates(program, checks, room):

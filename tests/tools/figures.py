@@ -29,11 +29,12 @@ REFUSALS = [  # an alarm, its figure and a word of it, and whether one refusal i
     ("RoutedBatchRefused", "routed_refused_batches_total", "version", False),
     ("RoutedRowRefused", "routed_refused_rows_total", "row", False),
     ("RoutedFeedBatchRefused", "routed_feed_refused_batches_total", "version", False)]
-RISES = [  # an alarm of pcep, and the figure that rises from 0 to 1, or falls to 0, after 5 minutes
+RISES = [  # an alarm, and the figure that rises from 0 to 1, or falls to 0, after 5 minutes
     ("RoutedPcepWithoutRoute", "routed_pcep_lsps_without_route", "0x20 1x100"),
     ("RoutedPcepOnLostRoute", 'routed_pcep_lsps_at_fault{fault="lost"}', "0x20 1x100"),
     *(("RoutedPcepLspAtFault", f'routed_pcep_lsps_at_fault{{fault="{fault}"}}', "0x20 1x100") for fault in ("down", "silent", "unknown")),
     ("RoutedPcepUpdateRefused", 'routed_pcep_updates_total{outcome="refused"}', "0x20 1x100"),
+    ("RoutedClientRowRefused", "routed_client_refused_rows_total", "0x20 1x100"),
     ("RoutedPcepSessionEnded", "routed_pcep_sessions_ended_total", "0x20 1x100"),
     ("RoutedPcepNoServer", "routed_pcep_connected", "1x20 0x100"),
     ("RoutedPcepJournal", "routed_pcep_journal_followed", "1x20 0x100"),
@@ -126,7 +127,7 @@ def sums(program, checks, room):
         checks.same("asks by outcome", {outcome: count("routed_asks_total", outcome) for outcome in ASKS}, wanted)
         checks.same("their times", count("routed_ask_seconds_count"), CLIENTS * (3 + 4 + 5 + 6 + 3))
         checks.same("refused rows", {word: number for (name, word), number in now.items() if name == "routed_refused_rows_total"},
-                    {"number": 1})
+                    counted(line for its in lines for line in its if " refused: " in line) | {"number": 1})
         checks.same("refused rows of clients", count("routed_client_refused_rows_total"),
                     sum(" refused: " in line for its in lines for line in its))
         checks.same("refused batches", {word: number for (name, word), number in now.items() if name == "routed_refused_batches_total"},
@@ -149,6 +150,12 @@ def sums(program, checks, room):
         now = figures_of(room)
         checks.same("one was cut off", [count("routed_cut_off_total", reason) for reason in ("line", "idle")], [1, 0])
         checks.same("connections in all", [count("routed_connections_total", place) for place in ("ask", "updates")], [CLIENTS, 1])
+
+
+def counted(lines):
+    """Refused rows by the first word of the reason."""
+    words = [line.split(" refused: ")[1].split()[0] for line in lines]
+    return {word: words.count(word) for word in words}
 
 
 def alarms(program, checks, room):
@@ -335,14 +342,13 @@ def screen(program, checks, room):
         updating.talk(PAIR + "end,1,2\n")
         taken.say(ASKS["route"] + ASKS["none"] + "foo\n")
         taken.hear(3)
-        updating.talk("end,2,0\n")
-        checks.same("a row that is refused", updating.talk("node,1.1.1.1,x\n").split(" refused: ")[1], "number 3\n")
         found, out, err = told(os.path.join(room, "metrics"))
         lines = dict(line.split(None, 1) if not line.startswith(("last", "time", "refused", "cut", "dropped")) else
                      (" ".join(line.split(" ")[:2]), line[19:]) for line in out.splitlines())
-        named = [lines.get(name) for name in ("version", "asks", "rows", "refused updates", "connections")]
-        checks.same("the screen", (found, err, *named),
-                    (0, "", "2, 999,998 left", "none 1, route 1", "3 of clients, 1 refused", "number 1", "ask 1, metrics 1, updates 1"))
+        checks.same("the screen", (found, err, lines.get("version"), lines.get("asks"), lines.get("refused rows"),
+                                   lines.get("connections")),
+                    (0, "", "1, 999,999 left", "none 1, route 1", "kind 1", "ask 1, metrics 1, updates 1"))
+        checks.same("rows of clients on the screen", lines.get("rows"), "3 of clients, 1 refused")
         checks.same("a place that is no HTTP", told(front.ask), (1, "", f"status: {front.ask}: timed out; {OTHER}\n"))
     with socket.create_server(("127.0.0.1", 0)) as wrong:
         port, answer = str(wrong.getsockname()[1]), b"HTTP/1.1 200 OK\r\n\r\nrouted_version x\n"
@@ -425,6 +431,10 @@ def audited(program, checks, room):
     ran = subprocess.run([*tool[:3], "--program", slow, *words], stderr=theirs)
     said = os.read(ours, 4096).decode()
     checks.true("how far it is", ran.returncode == 2 and "audit: 33 % of the replies are read" in said, (ran.returncode, said))
+    with open(slow, "w") as file:
+        file.write('#!/bin/sh\necho "$*"\n')
+    ran = subprocess.run([*tool[:3], "--program", slow, *words, "--except"], capture_output=True, text=True)
+    checks.same("an option that is passed on", ran.stdout.split()[-2:], ["--explain", "--except"])
     with open(slow, "w") as file:
         file.write("#!/bin/sh\nkill -9 $$\n")
     checks.same("an audit that a signal ends", subprocess.run([*tool[:3], "--program", slow, *words]).returncode, 128 + 9)

@@ -183,9 +183,7 @@ class Updater:
     def talk(self, taken, draw, begun):
         good = None
         with contextlib.suppress(OSError, EOFError):
-            if (line := heard(taken, "snapshot\n")) == "busy\n":
-                raise EOFError  # the server has ended, and `listen` hasn't yet
-            version = int(line.split()[1])
+            version = int(heard(taken, "snapshot\n").split()[1])
             links, self.runs = {}, self.runs + [int(heard(taken).split()[1])]
             while (line := heard(taken)) != "snapshot end\n":
                 kind, rest = line.rstrip("\n").split(",", 1)

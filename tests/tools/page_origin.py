@@ -63,10 +63,25 @@ def page_of(url, asks):
             f"<script>const asks = {json.dumps(asks)}, page = {json.dumps(url)};{SCRIPT}</script>")
 
 
+def asks_of(figures):
+    """How often pages have asked, by outcome."""
+    return {name: number for name, number in figures.items() if name[0] == "routed_page_asks_total"}
+
+
+def at_rest(window, at):
+    """Waits until the page has asked again for the version that it was told of, and none of its asks is under way."""
+    window.until("!askAgain.due")
+    found, before = asks_of(at.figures()), None
+    while found != before:
+        time.sleep(SOON)
+        found, before = asks_of(at.figures()), found
+
+
 def others(window, path, checks):
     """A picture, a form and a script of another origin read 403 or nothing, and start no program, whether they know the token or not."""
     with opened(window, path) as at:
         pin(window, 1, 3)
+        at_rest(window, at)
         page = window.value("page.page")
         for token in ("", at.token):
             fields = f"token={token}&page={page}&head=192.0.2.1&tail=192.0.2.3&router=192.0.2.2&version=1"
@@ -83,8 +98,7 @@ def others(window, path, checks):
                 checks.true(f"by going there {how} the token", "refused" in found and "route" not in found, found)
             time.sleep(SOON)
             after = at.figures()
-            asked = {name: number for name, number in after.items() if name[0] == "routed_page_asks_total"}
-            checks.same(f"no ask was made {how} the token", asked, {name: before[name] for name in asked})
+            checks.same(f"no ask was made {how} the token", asks_of(after), asks_of(before))
             refused = [figures.get(("routed_page_requests_total", "403"), 0) for figures in (before, after)]
             checks.true(f"it read 403 {how} the token", refused[1] >= refused[0] + 4 * len(asks), refused)
             with open(f"/proc/{at.child.pid}/task/{at.child.pid}/children", encoding="ascii") as children:

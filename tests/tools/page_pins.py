@@ -15,7 +15,7 @@ from routed.page import page, picture, pins
 GEOMETRY = picture.CHILD[-1].encode()
 PAGES, SEEN = 100, 10  # and seconds until the end of one is seen
 SHORT = [sys.executable, "-c", f"import sys; sys.path.insert(0, {os.path.join(TOP, 'python')!r}); from routed.page import whatif; "
-         "whatif.IDLE = 5; from routed.tools import main; sys.exit(main(['page', *sys.argv[1:]]))"]
+         "whatif.IDLE = 15; from routed.tools import main; sys.exit(main(['page', *sys.argv[1:]]))"]
 PUTS = [row for row in GERMANY.splitlines() if row.startswith("put")]
 ROUTERS = sorted({row.split(",")[1] for row in PUTS})
 

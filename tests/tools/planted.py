@@ -11,7 +11,7 @@ from routed import tools
 from routed.feed.bgpls import lsdb
 from routed.feed.ospf import lsas
 from routed.follow import asks, versions
-from routed.front import accounts, channels, direct, listen, relays, snapshots, updates, watch
+from routed.front import accounts, channels, direct, listen, relays, seats, snapshots, updates, watch
 from routed.net import http, stream
 from routed.pcep import admission, answers, front, making, moves, pcc, session
 
@@ -22,7 +22,7 @@ class Planted(Exception):
 
 PLACES = {
     "listen": [(channels.Channel, "begin take settle read_lines finish"), (relays.Relay, "end_idle over"),
-               (updates.Updates, "go_on drop_changes"), (direct.Direct, "begin read hang_up over finish"),
+               (updates.Updates, "go_on drop_changes"), (direct.Direct, "begin read hang_up over finish"), (seats.Seat, "begin renew"),
                (accounts.Account, "rows lines"), (snapshots.Snapshots, "begin look"), (watch.Watcher, "tell go_on"),
                (http, "answer_to"), (http.Reading, "close"), (stream.Stream, "peer drop"), (listen.Front, "signalled")],
     "pcep": [(pcc.Pcc, "go_on proceed flush tick close"), (session.Session, "message again"),

@@ -63,7 +63,7 @@ class Batches:
         if line == "too many rows":
             raise Stopped("the program takes no more rows")
         is_row = REFUSED_ROW.fullmatch(line)
-        if re.match(r"ask \d+ v", line) or is_row and (self.before or not self.sent):
+        if re.match(r"(?:ask|except) \d+ v", line) or is_row and (self.before or not self.sent):
             self.before = max(0, self.before - 1)
             return False
         if is_row:

@@ -38,7 +38,7 @@ from .sids import SidFile, Values
 TOGETHER = 0.02  # seconds: what comes so close together isn't cut, as a removal and its new instance
 LONGEST = 1.0  # seconds that such a run of events may put a batch off
 AGAIN = 1.0  # seconds from one try to connect to the next
-ASK = re.compile(rb"ask,[0-9A-Za-z.,:/ ]*")
+ASK = re.compile(rb"(?:ask|except),[0-9A-Za-z.,:/ ]*")
 
 
 class Lost(Exception):
@@ -372,7 +372,9 @@ def options(asked: argparse.ArgumentParser, **defaults: object) -> None:
                        help="where adjacency SIDs are told, as lines sid,VERSION,ROUTER,LOCAL,LABEL; it is made anew")
     asked.add_argument("--sid-group", type=program.number("number", 0, 31), metavar="N",
                        help="the administrative group, 0 to 31, of exactly the links that have an adjacency SID")
-    asked.set_defaults(**{"quiet": math.inf, "srlgs": None} | defaults)
+    asked.add_argument("--srlgs", metavar="FILE",
+                       help="where SRLGs are told, as lines srlg,VERSION,ROUTER,LOCAL,GROUP GROUP ..; it is made anew")
+    asked.set_defaults(**{"quiet": math.inf} | defaults)
     asked.add_argument("--once", action="store_true", help="write the present network as one journal, and end")
     asked.add_argument("--verbose", action="store_true", help="say which links are left out, and why")
     asked.add_argument("command", nargs=argparse.REMAINDER, help="what takes the rows, as: routed solve")

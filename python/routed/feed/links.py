@@ -145,6 +145,10 @@ class Tlvs(dict[int, list[bytes]]):
     def number(self, kind: int) -> int:
         return int.from_bytes(self.first(kind), "big")
 
+    def numbers(self, kind: int) -> frozenset[int]:
+        """The numbers of 4 bytes of all values."""
+        return frozenset(each for value in self.get(kind, []) for each, in struct.iter_unpack(">I", value))
+
     def address(self, kind: int) -> str:
         """An address; empty where it is 0.0.0.0 or missing."""
         return socket.inet_ntoa(self.first(kind)) if self.number(kind) else ""

@@ -7,6 +7,7 @@ import time
 from collections.abc import Callable
 from typing import Optional
 
+from ..model.rows import row_of
 from ..net.direct import direct
 from ..net.endpoints import CONNECT, Endpoint
 from ..net.loop import READ, WRITE, Loop
@@ -66,7 +67,7 @@ class Asks:
 
     def ask(self, row: str, call: Call) -> None:
         self.number += 1
-        self.give(Ask(f"ask,{self.number},{row}", call, self.wanted), lambda one: (False, len(one.asks)))
+        self.give(Ask(row_of(self.number, row), call, self.wanted), lambda one: (False, len(one.asks)))
 
     def give(self, ask: Ask, rank: Callable[[Connection], tuple[bool, int]]) -> None:
         usable = [one for one in self.connections if one.is_usable()]

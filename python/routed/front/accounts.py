@@ -13,7 +13,7 @@ from time import monotonic
 
 from ..net.log import Log
 from .metrics import TIMES, Figures
-from .tallies import Tallies
+from .tallies import Counts, Tallies
 
 VERSIONS = JOURNAL_ROWS = 1_000_000  # the most that a run publishes, and that the commands read of a journal
 AT_ONCE = 1 << 18  # bytes of the journal that are read at once
@@ -21,7 +21,6 @@ ROW = re.compile(rb"[^\r\n]+")  # a carriage return ends one, too
 END = re.compile(rb"(?m)^end,.*\n")
 OUTCOMES = [(b" route cost=", "route"), (b" none\n", "none"), (b" unknown-from\n", "unknown-from"), (b" unknown-to\n", "unknown-to")]
 OTHER = re.compile(rb"(?m)^(?:(version) (\d+)|((row|batch) \d+ refused: ([^ \n]+)[^\n]*))$")
-REFUSED = re.compile(rb"(?m)^row \d+ refused: [^\n]*$")
 CUT_OFF = {"line": "refused, for a line that isn't passed on", "idle": "idle for too long"}
 PLACES = ("ask", "direct", "updates", "watch", "show", "metrics")
 
@@ -31,7 +30,7 @@ class Account:
 
     def __init__(self, log: Log, journal: str, number: int | None = None) -> None:
         self.log, self.journal, self.version, self.number = log, Journal(journal), 0, number
-        self.tallies, self.asks = Tallies(), {outcome: 0 for _, outcome in OUTCOMES}  # of clients, and asks of the updates
+        self.tallies, self.counts = Tallies(), Counts()  # of clients, and of the updates
         self.run = str(number) if number else secrets.token_hex(8)  # the name of this run of the server
         self.journal_failed: Callable[[], object] = lambda: None
         self.fault = ""  # why nothing is published any more
@@ -53,11 +52,11 @@ class Account:
         figures.gauge("routed_journal_rows_left", "How many rows the journal may still have, so that the commands read it.",
                       lambda: JOURNAL_ROWS - self.journal.rows)
         figures.total("routed_asks_total", "Requests that were answered, by their outcome.",
-                      lambda: self.tallies.asks(self.asks), "outcome")
+                      lambda: self.tallies.asks(self.counts), "outcome")
         self.tallies.add(figures)
         figures.times("routed_ask_seconds", "Seconds from a row of an asking connection to its line, where both are passed on.")
         self.times = figures.values["routed_ask_seconds"]  # each ask counts there
-        figures.counter("routed_refused_rows_total", "Rows of the updates that were refused, by the first word of the reason.", "word")
+        figures.counter("routed_refused_rows_total", "Refused rows whose lines are passed on, by the first word of the reason.", "word")
         figures.counter("routed_refused_batches_total", "Batches that were refused, by the first word of the reason.", "word")
         figures.gauge("routed_connections", "Connections that are open, by their place.",
                       lambda: {it: self.open[it] for it in PLACES}, "place")
@@ -123,14 +122,12 @@ class Account:
         if not count:
             return
         use.lines += count
-        if use.place == "ask":  # the server counts the lines of clients
+        if use.place == "ask":
             self.take_times(use.sent, count)
-            for line in REFUSED.findall(said) if b" refused: " in said else ():
-                self.log.say("info", f"{use.place} {use.number}: {line.decode(errors='backslashreplace')}")
-            return
+            use.counts["rows"] += count
         for part, outcome in OUTCOMES:
             if found := said.count(part):
-                self.asks[outcome] += found
+                use.counts[outcome] += found
                 count -= found
                 if not count:
                     return
@@ -160,6 +157,7 @@ class Account:
             else:
                 batch = kind == b"batch"
                 self.figures.add(f"routed_refused_{'batches' if batch else 'rows'}_total", 1, word.decode(errors="backslashreplace"))
+                use.counts["refused"] += not batch
                 if batch and word in (b"journal", b"stopped"):
                     self.fault = self.fault or line.decode(errors="backslashreplace")
                     self.journal_failed()
@@ -170,10 +168,11 @@ class Account:
 
 
 class Use:
-    """A stream's use by one connection: what was passed on, and when the rows were that have no lines yet."""
+    """A stream's use by one connection: what was passed on, and when the rows were that have no lines yet. Its lines are counted in
+    `counts`, too, which other connections may share."""
 
-    def __init__(self, account: Account, place: str, named: str) -> None:
-        self.account, self.place, self.begun = account, place, time.monotonic()
+    def __init__(self, account: Account, place: str, named: str, counts: Counts) -> None:
+        self.account, self.place, self.counts, self.begun = account, place, counts, time.monotonic()
         self.rows, self.lines = 0, 0
         self.sent: collections.deque[tuple[float, int]] = collections.deque()
         self.number = account.begin(place, named) if named else 0

@@ -9,6 +9,7 @@ import time
 from ..net.loop import READ, Loop, Owned
 from ..net.stream import LONGEST, Stream
 from .accounts import Account, Use
+from .tallies import Counts
 
 MARK = b"\xef\xbb\xbf"  # the byte order mark, which the server's reader skips at the beginning of a stream alone
 
@@ -28,13 +29,13 @@ class Channel:
 
     place = ""
 
-    def __init__(self, loop: Loop, server: Stream, account: Account) -> None:
+    def __init__(self, loop: Loop, server: Stream, account: Account, counts: Counts) -> None:
         # fewer than 30 attributes, all set here: each ask takes CPython longer where an instance has more, or gets some later
         self.loop: Owned = loop.of(self)
-        self.server, self.account = server, account
+        self.server, self.account, self.counts = server, account, counts
         server.give(self, self.read_lines)
         self.connection: Stream | None = None
-        self.use = Use(account, self.place, "")  # nobody's
+        self.use = Use(account, self.place, "", counts)  # nobody's
         self.state = FREE
         self.waited: tuple[object, ...] | None = None
         self.unread, self.last, self.moved = b"", b"", 0.0  # of the connection: rows, its last line, and when it sent or took anything
@@ -49,7 +50,7 @@ class Channel:
 
     def begin(self, connection: Stream, named: str) -> None:
         self.connection = connection
-        self.use = Use(self.account, self.place, named)
+        self.use = Use(self.account, self.place, named, self.counts)
         self.unread, self.last, self.moved, self.state = b"", b"", time.monotonic(), NEW
         connection.give(self, self.read_rows)
         self.settle()

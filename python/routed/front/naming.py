@@ -5,8 +5,9 @@ from ..model.names import Names
 from ..model.rows import Reply, is_address
 from ..net.stream import LONGEST
 
-ADDRESSES = {"put": 4, "drop": 2, "node": 1, "ask": 3, "place": 3}  # of a row's fields behind its word, the last one that is an address
-FIRST = {"ask": 2, "place": 2}  # and the first one, where it isn't field 1
+# Of a row's fields behind its word, the last one that is an address.
+ADDRESSES = {"put": 4, "drop": 2, "node": 1, "ask": 3, "except": 3, "place": 3}
+FIRST = {"ask": 2, "except": 2, "place": 2}  # and the first one, where it isn't field 1
 MOST_OWNERS = 16_384  # interfaces whose routers are known
 
 

@@ -50,7 +50,7 @@ class Relay(Channel):
     place = "ask"
 
     def __init__(self, relays: Relays, seat: Seat, server: Stream) -> None:
-        super().__init__(relays.loop, server, relays.account)
+        super().__init__(relays.loop, server, relays.account, relays.account.tallies.relayed[seat.number])
         self.relays, self.seat = relays, seat
         self.moved = time.monotonic()
         self.unanswered, self.is_watched = 0, False  # how many rows are passed on that have no line yet, and whether these are waited for

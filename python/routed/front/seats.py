@@ -75,7 +75,7 @@ class Seat:
         self.user: User | None = None
         self.peer: int | str | None = None
         self.left: Callable[[], object] | None = None
-        self.is_begun = False  # the session of `following` runs
+        self.is_begun = self.is_failed = False  # the session of `following` runs; it isn't used again
         self.following = Pipes()
         self.place = self.following.theirs, self.following.their_lines
         self.await_session()
@@ -84,7 +84,13 @@ class Seat:
         return f"seat {self.number}"
 
     def fail(self) -> None:
-        """It isn't used again."""
+        """Takes it out of use for an exception, which may come where a session has ended."""
+        self.is_failed = True
+        self.seats.drop(self)
+        self.seats.account.log.say("error", f"{self.named()} isn't used again")
+        if self.user:
+            self.user.loop.call(self.user.over)
+        self.tell_left()
 
     def await_session(self) -> None:
         self.is_begun = False
@@ -113,6 +119,9 @@ class Seat:
             os.close(file)
         self.await_session()
         self.seats.free.append(self)
+        self.tell_left()
+
+    def tell_left(self) -> None:
         if self.left:
             left, self.left = self.left, None
             left()
@@ -127,16 +136,17 @@ class Seat:
         """Its user needs it no more, and has closed its ends. Calls `left` once another one can have it, or where that isn't soon."""
         self.user, self.left = None, left
         self.seats.peers[self.peer] -= 1
-        if self.is_begun:
-            self.renew()
+        if self.is_failed:
+            self.tell_left()
+        elif self.is_begun:
+            self.loop.call(self.renew)
         else:
             self.loop.after(LATE, lambda: self.look(left))
 
     def look(self, left: Callable[[], object]) -> None:
         if self.left is left:
             self.seats.account.log.say("error", f"{self.named()}: the server hasn't opened its files again")
-            self.left = None
-            left()
+            self.tell_left()
 
 
 class Seats:
@@ -151,6 +161,12 @@ class Seats:
     @property
     def are_free(self) -> bool:
         return len(self.free) == len(self.all)
+
+    def drop(self, seat: Seat) -> None:
+        """The seat is for nobody any more."""
+        self.all.remove(seat)
+        with contextlib.suppress(ValueError):  # it isn't free
+            self.free.remove(seat)
 
     def take(self, place: str, connection: Stream) -> tuple[Seat, Stream, str] | None:
         """A seat for a connection, our own ends of its pipes, and how the log names the connection; or it is told that it is busy."""

@@ -103,7 +103,7 @@ def screen(figures: Figures, names: Names) -> Iterator[tuple[str, str]]:
         yield "time of a row", f"by the relay, half within {share(figures, 0.5)}, 99 of 100 within {share(figures, 0.99)}"
         yield "rows", f"{number('routed_rows_total')} of clients, {number('routed_client_refused_rows_total')} refused"
         yield "sessions", f"{number('routed_sessions_total')} ended"
-        yield "refused updates", listed("routed_refused_rows_total")
+        yield "refused rows", listed("routed_refused_rows_total")
         yield "refused batches", listed("routed_refused_batches_total")
         yield "connections", listed("routed_connections")
         yield "busy", listed("routed_busy_total")

@@ -1,6 +1,9 @@
-"""What `routed serve --figures` counts: a line for each seat, written again at each published batch and at each end of a session."""
+"""What `routed serve --figures` counts: a line for each seat, written again at each published batch and at each end of a session.
+
+What the relay has passed on is counted here at once. So of each seat the greater number is told."""
 from __future__ import annotations
 
+import collections
 import os
 
 from .metrics import Figures
@@ -8,6 +11,7 @@ from .metrics import Figures
 OUTCOMES = "route", "none", "unknown-from", "unknown-to"
 TRIES = 100  # reads of a file that is just being written
 Tally = dict[str, int]  # of a seat, by the words of its line
+Counts = collections.Counter[str]  # the same of lines that were passed on
 
 
 class Tallies:
@@ -17,6 +21,7 @@ class Tallies:
         self.file = os.memfd_create("figures")
         self.path = f"/proc/{os.getpid()}/fd/{self.file}"
         self.seats: list[Tally] = []
+        self.relayed: collections.defaultdict[int, Counts] = collections.defaultdict(Counts)  # by the number of the seat
 
     def read(self) -> list[Tally]:
         """The seats. A file whose first and last line have another number was written meanwhile, and is read again."""
@@ -29,9 +34,10 @@ class Tallies:
         return self.seats
 
     def sum(self, word: str) -> int:
-        return sum(seat[word] for seat in self.read())
+        seats = {seat["seat"]: seat[word] for seat in self.read()}
+        return sum(max(seats.get(seat, 0), self.relayed[seat][word]) for seat in seats.keys() | self.relayed.keys())
 
-    def asks(self, others: dict[str, int]) -> dict[str, int]:
+    def asks(self, others: Counts) -> dict[str, int]:
         """Requests that were answered, by their outcome: of clients, and others."""
         return {outcome: self.sum(outcome) + others[outcome] for outcome in OUTCOMES}
 

@@ -28,7 +28,7 @@ class Updates(Channel):
     place = "updates"
 
     def __init__(self, loop: Loop, server: Stream, account: Account, snapshots: Snapshots) -> None:
-        super().__init__(loop, server, account)
+        super().__init__(loop, server, account, account.counts)
         self.snapshots = snapshots
         # how the reply to our own request begins, and what is called with its version
         self.awaited: tuple[bytes, Callable[[int], object]] | None = None
@@ -38,7 +38,9 @@ class Updates(Channel):
 
     def accept(self, connection: Stream) -> None:
         _, named = connection.peer()
-        if self.state is FREE and not self.server.is_ended:
+        if self.server.is_ended:  # and this front ends soon, so the place isn't another's
+            connection.hang_up()
+        elif self.state is FREE:
             self.connection = connection  # it ends with its use, however that begins
             self.loop.call(self.begin, connection, named)
         else:
@@ -53,7 +55,7 @@ class Updates(Channel):
         if connection is None:
             raise Stopped("the server's stream of updates can't be used any more")
         connection.close()
-        use, self.use, self.waited = self.use, Use(self.account, self.place, ""), None
+        use, self.use, self.waited = self.use, Use(self.account, self.place, "", self.counts), None
         self.end_rows()
         self.settle()
         if use.number:
@@ -97,7 +99,7 @@ class Updates(Channel):
         connection, self.connection, self.state = self.connection, None, FREE
         if connection:
             self.use.end()
-            self.use = Use(self.account, self.place, "")
+            self.use = Use(self.account, self.place, "", self.counts)
             connection.hang_up()
 
     def meet(self, line: bytes) -> None:

@@ -144,7 +144,5 @@ def main(words: list[str] | None = None) -> int:
                        help="seconds without an Update after which all has been told (2)")
     asked.add_argument("--most", type=number("number", 1, 2**20), default=65536, metavar="N",
                        help="nodes and links that the peer may announce")
-    asked.add_argument("--srlgs", metavar="FILE",
-                       help="where SRLGs are told, as lines srlg,VERSION,ROUTER,LOCAL,GROUP GROUP ..; it is made anew")
     options(asked, where="{0.peer.address[0]} port {0.peer.address[1]}", quiet=2.0, secret=None)
     return run("bgpls", asked, words, Peer)

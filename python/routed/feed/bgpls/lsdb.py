@@ -79,8 +79,8 @@ def announced(route: Route, raw: bytes, is_maximum: bool) -> Announced:
     elif kind == LINK and family == "ospf" and IGP_METRIC in attribute and len(ends[0].igp) == 4:  # those that count for RFC 6987
         transit = Transit.STUB if attribute.number(IGP_METRIC) == MAX_METRIC else Transit.FREE
     label = label_of(attribute.get(SID, []), OSPF_SID if family == "ospf" else ISIS_SID)
-    srlgs = frozenset(each for value in attribute.get(SRLGS, []) for each, in struct.iter_unpack(">I", value))
-    return Announced(raw, link, ends, (attribute.address(OWN), attribute.address(OTHER)), of.address(INTERFACE), transit, label, srlgs)
+    return Announced(raw, link, ends, (attribute.address(OWN), attribute.address(OTHER)), of.address(INTERFACE), transit, label,
+                     attribute.numbers(SRLGS))
 
 
 def link_in(of: Tlvs, attribute: Tlvs, why: str, is_maximum: bool) -> Link | str:

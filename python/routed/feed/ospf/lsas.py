@@ -1,8 +1,9 @@
-"""The LSAs that rows are made of: router LSAs (RFC 2328 A.4.2) and traffic engineering LSAs (RFC 3630 2). Extended link
-LSAs (RFC 7684 3) have the adjacency SIDs (RFC 8665 6.1)."""
+"""The LSAs that rows are made of: router LSAs (RFC 2328 A.4.2) and traffic engineering LSAs (RFC 3630 2), which have the SRLGs, too
+(RFC 4203 1.3). Extended link LSAs (RFC 7684 3) have the adjacency SIDs (RFC 8665 6.1)."""
 from __future__ import annotations
 
 import dataclasses
+import functools
 import socket
 import struct
 from collections.abc import Callable
@@ -20,6 +21,8 @@ POINT_TO_POINT = 1  # in all these kinds of LSA
 STUB_NETWORK = 3  # in a router LSA
 MAX_AGE = 3600
 SIZES = {kind: range(least, 1 << 16) for kind, least in ((1, 1), (2, 4), (3, 4), (4, 4), (5, 4), (6, 4), (8, 32), (9, 4))}  # of sub-TLVs
+SRLGS = 16  # a sub-TLV, which is read where SRLGs are asked for
+SIZES_WITH_SRLGS = SIZES | {SRLGS: range(0, 1 << 16, 4)}
 PADDED = 4  # values of TLVs are padded to so many bytes (RFC 3630 2.3.2)
 UNREAD = "unread"  # in the place of an LSA's content
 LSA_HEADER = struct.Struct(">HBB4s4siHH")  # age, options, type, id, router, sequence number, checksum, length
@@ -45,6 +48,7 @@ class TeLsa(NamedTuple):
     local: str
     link: Link | str  # without its router, and with metric 0 where it has none; else why there is none
     most: float | None  # the maximum bandwidth
+    srlgs: frozenset[int] = frozenset()
 
 
 class LinkSid(NamedTuple):
@@ -63,15 +67,16 @@ def first(body: bytes, wanted: int) -> bytes | None:
     return next((value for kind, value in tlvs(body, align=PADDED) if kind == wanted), None)
 
 
-def te_link(body: bytes) -> TeLsa | None:
+def te_link(body: bytes, has_srlgs: bool = False) -> TeLsa | None:
     """The link of a TE LSA, None where it has none."""
     if (value := first(body, LINK_TLV)) is None:
         return None
-    of = Tlvs(value, SIZES, PADDED)
+    of = Tlvs(value, SIZES_WITH_SRLGS if has_srlgs else SIZES, PADDED)
     local, neighbor, remote = map(of.address, (3, 2, 4))
     link = link_of(local, neighbor, remote if neighbor else "", of.number(5), of.number(9), of.first(8, 32))
     is_one_to_one = of.first(1, 1) == bytes([POINT_TO_POINT])
-    return TeLsa(local, link if is_one_to_one else "not point-to-point", struct.unpack(">f", of.first(6))[0] if 6 in of else None)
+    return TeLsa(local, link if is_one_to_one else "not point-to-point", struct.unpack(">f", of.first(6))[0] if 6 in of else None,
+                 of.numbers(SRLGS) if has_srlgs else frozenset())
 
 
 def link_sid(body: bytes) -> LinkSid | None:
@@ -100,11 +105,11 @@ def router_links(body: bytes) -> RouterLinks:
 
 
 class Lsdb:
-    """The LSAs of a router that are needed, and the rows of the links that they show. With `has_sids` it keeps adjacency SIDs,
-    too, and with a group (0 to 31) exactly the links that have one are in that administrative group."""
+    """The LSAs of a router that are needed, and the rows of the links that they show. With `has_sids` and `has_srlgs` it keeps adjacency
+    SIDs and SRLGs, too, and with a group (0 to 31) exactly the links that have a SID are in that administrative group."""
 
-    def __init__(self, has_sids: bool = False, group: int | None = None) -> None:
-        self.opaque: dict[int, Callable[[bytes], Content]] = {TE_OPAQUE: te_link}
+    def __init__(self, has_sids: bool = False, group: int | None = None, has_srlgs: bool = False) -> None:
+        self.opaque: dict[int, Callable[[bytes], Content]] = {TE_OPAQUE: functools.partial(te_link, has_srlgs=has_srlgs)}
         if has_sids or group is not None:
             self.opaque[EXTENDED_LINK_OPAQUE] = link_sid
         self.group = group
@@ -162,7 +167,7 @@ class Lsdb:
             announced.add((area, router, name))
             sids = labels.get((area, router, name), {})
             link = told.link if isinstance(told.link, str) else between(told.link, router, up, area)
-            network.tell(key, Told((router, name), link, sids[min(sids)] if sids else 0))  # the SID by RFC 7684 3
+            network.tell(key, Told((router, name), link, sids[min(sids)] if sids else 0, told.srlgs))  # the SID by RFC 7684 3
             if told.most in WRAPPED and isinstance(link, Link):
                 network.notes[link.key] = (
                     f"{router} {name}: its bandwidth of {told.most:.0f} bytes per second looks like the default of a circuit of "

@@ -31,7 +31,7 @@ class Router(Session):
     """A session with the OSPF API of a router that sends its LSAs and each change of them."""
 
     def __init__(self, asked: argparse.Namespace, feed: Hearing) -> None:
-        self.lsdb = Lsdb(bool(asked.sids), asked.sid_group)
+        self.lsdb = Lsdb(bool(asked.sids), asked.sid_group, bool(asked.srlgs))
         super().__init__(asked, feed, self.lsdb.network, (HEADER.size, front), self.message)
         for made in sockets(asked.router, asked.port):
             self.watch(Stream(feed.loop, made))
