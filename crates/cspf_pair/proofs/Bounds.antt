@@ -79,7 +79,7 @@ module _ (d : Database) (q : Request) where
 
 -- Sums over the links and routers of a pair.
 
-key_same : (l : Link) → have_same_key l l ≡ true
+pub key_same : (l : Link) → have_same_key l l ≡ true
 key_same l = and_from (nat_eq l.from l.from) (nat_eq l.local l.local) (eq-eqb l.from l.from refl) (eq-eqb l.local l.local refl)
 
 parts : (a b : Bool) → (a && b) ≡ true → (a ≡ true) × (b ≡ true)

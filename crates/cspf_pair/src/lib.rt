@@ -15,7 +15,7 @@ mod request;
 pub use kind::Kind;
 pub use laws::{
     least_by_potentials, no_pair_for_this_reason, pair_by_routers_is_by_circuits,
-    ways_by_potentials,
+    pairs_of_links_are_no_smaller, ways_by_potentials,
 };
 pub use outcome::PairOutcome;
 pub use request::PairRequest;
