@@ -18,6 +18,8 @@ use Rattle.cspf_stream.specs.declared.error.StreamError.{StreamError}
 use Rattle.cspf_stream.specs.declared.error.StreamError.TheVariants as stream_error
 use Rattle.cspf_stream.specs.declared.error.StreamStop.{StreamStop}
 use Rattle.cspf_stream.specs.declared.error.StreamStop.TheVariants as stop
+use Rattle.cspf_client.specs.declared.error.RowFault.{RowFault}
+use Rattle.cspf_client.specs.declared.error.RowFault.TheVariants as row_fault
 use Rattle.cspf_client.specs.ClientRows.{IsRefusedRow, IsClientRowAnswered, IsClientRowUnanswered, IsReadAnswered, IsReadUnanswered, IsClientAnswered, IsClientUnanswered}
 use Rattle.cspf_client.specs.ClientRuns.{ClientsGoForward, IsClientStopped}
 use Rattle.cspf_client.specs.declared.error.ClientError.{ClientError}
@@ -55,10 +57,13 @@ forward_unanswered : (fault : AskError) (place : ℕ) (s t : SessionState) (r : 
 forward_unanswered fault place s t (Ok (row.Ask q)) a = HasGoneForward-count place s t a.reads
 forward_unanswered fault place s t other a = forward_equal s t a.1
 
-forward_unread : (fault : AskError) (place : ℕ) (s t : SessionState) (r : ReadFields) → IsReadUnanswered fault place s r t → HasGoneForward s t
-forward_unread fault place s t (reading.Row r) a = forward_unanswered fault place s t r a
-forward_unread fault place s t (reading.Question question) a = HasGoneForward-count place s t a.reads
-forward_unread fault place s t (reading.Refused why) a = forward_equal s t a.1
+forward_unread : (fault : RowFault) (place : ℕ) (s t : SessionState) (r : ReadFields) → IsReadUnanswered fault place s r t → HasGoneForward s t
+forward_unread (row_fault.Ask why) place s t (reading.Row r) a = forward_unanswered why place s t r a
+forward_unread (row_fault.Ask why) place s t (reading.Question question) a = HasGoneForward-count place s t a.reads
+forward_unread (row_fault.Ask why) place s t (reading.Refused refused) a = forward_equal s t a.1
+forward_unread row_fault.Undecided place s t (reading.Row r) a = absurd a
+forward_unread row_fault.Undecided place s t (reading.Question question) a = HasGoneForward-count place s t a.1
+forward_unread row_fault.Undecided place s t (reading.Refused refused) a = absurd a
 
 pub forward : ClientsGoForward
 unfolding AreAnswered
@@ -76,9 +81,10 @@ FailsForward fails = (place : ℕ) (s t : SessionState) (fields : List (List ℕ
 pub never_forward : FailsForward NeverFails
 never_forward place s t fields a = absurd a
 
-pub unanswered_forward : (kinds : QuestionKinds) (fault : AskError) → FailsForward (IsClientUnanswered kinds fault)
+pub unanswered_forward : (kinds : QuestionKinds) (fault : RowFault) → FailsForward (IsClientUnanswered kinds fault)
 unanswered_forward kinds fault place s t fields (inl a) = forward_unread fault place s t (read_fields kinds fields) a
-unanswered_forward kinds fault place s t fields (inr a) = forward_equal s t a.1
+unanswered_forward kinds (row_fault.Ask why) place s t fields (inr a) = forward_equal s t a.1
+unanswered_forward kinds row_fault.Undecided place s t fields (inr a) = absurd a
 
 -- a client goes forward even at a row that stops its stream
 pub forward_row_stopped : (kinds : QuestionKinds) (fails : FailsOf SessionState) → FailsForward fails → (why : StreamError) (place : ℕ) (fields : List (List ℕ)) (s t : SessionState) (old new : Option (List ℕ))
@@ -97,7 +103,7 @@ module _ (kinds : QuestionKinds) (all left : Option Rows) (failed : Bool) (s t :
       HasGoneForward-trans s a.before t (forward kinds 1 s a.before a.done a.lines a.answered)
       (forward_row_stopped kinds fails known why (suc (length a.done)) a.fields a.before t a.mid new a.stops)
 
-  forward_stopped : (why : StreamStop AskError) → IsStreamStopped (IsClientAnswered kinds) (IsClientUnanswered kinds) why all left failed s t old new → HasGoneForward s t
+  forward_stopped : (why : StreamStop RowFault) → IsStreamStopped (IsClientAnswered kinds) (IsClientUnanswered kinds) why all left failed s t old new → HasGoneForward s t
   forward_stopped (stop.Stream stream_error.Memory) (inl a) = between a.1
   forward_stopped (stop.Stream stream_error.Memory) (inr a) = absurd a.stops.0
   forward_stopped (stop.Stream stream_error.Read) a = between a.1

@@ -13,9 +13,12 @@ use Rattle.cspf_publish.specs.declared.errors.AskError.TheVariants as ask_error
 use Rattle.cspf_model.specs.Outcome.{answer_of}
 use Rattle.cspf_model.specs.Changes.{database_after}
 use Rattle.cspf_model.specs.Database.{Database}
-use Rattle.cspf_questions.specs.QuestionLines.{IsQuestionReply}
+use Rattle.cspf_disjoint.specs.declared.error.PairError.{PairError}
+use Rattle.cspf_disjoint.specs.declared.error.PairError.TheVariants as pair_error
+use Rattle.cspf_questions.specs.QuestionLines.{IsQuestionReply, MayFail}
 use Rattle.cspf_questions.specs.declared.question.Question.{Question}
-use Rattle.cspf_client.specs.ClientRows.{ReadsCount, IsQuestionAnswered, IsRequestAnswered, IsRequestUnanswered}
+use Rattle.cspf_client.specs.ClientRows.{ReadsCount, IsQuestionAnswered, IsQuestionUnanswered, IsRequestAnswered, IsRequestUnanswered}
+use Rattle.cspf_client.specs.ErrorNames.{fault_of_answer}
 use Rattle.cspf_client.specs.SessionStates.{SessionState}
 
 -- the state of a client with these parts
@@ -55,6 +58,12 @@ module _ (client place : ℕ) (a b c : KnownBatches) (old new : KnownSteps) (cou
     reads = reads;
     entry = λ e. let wrong : ask_error.Memory ≡ ask_error.NoEntry = sym is ∙ e in absurd (cc wrong);
   }
+
+  -- if a question has no answer for a reason, it isn't answered (`IsQuestionUnanswered`)
+  pub question_unanswered : (question : Question) (why : PairError) → MayFail question why
+      → IsQuestionUnanswered place question (fault_of_answer why) (session client a old refused) (session client c new refused)
+  question_unanswered question pair_error.Memory may = memory_refused ask_error.Memory refl
+  question_unanswered question pair_error.Undecided may = (may, reads)
 
   -- if the asker returned an error, the request isn't answered (`IsRequestUnanswered`)
   pub unanswered : (why : AskError) → (why ≡ ask_error.NoEntry → c ≡ b) → IsRequestUnanswered place why (session client a old refused) (session client c new refused)

@@ -10,7 +10,8 @@ use Rattle.cspf_publish.specs.Readings.{CatchesUp}
 use Rattle.cspf_publish.specs.declared.errors.AskError.{AskError}
 use Rattle.cspf_publish.specs.declared.errors.AskError.TheVariants as ask_error
 use Rattle.cspf_questions.specs.QuestionRows.{read_fields}
-use Rattle.cspf_questions.specs.QuestionLines.{IsQuestionReply, refused_question_line}
+use Rattle.cspf_disjoint.specs.declared.error.PairError.TheVariants as pair_error
+use Rattle.cspf_questions.specs.QuestionLines.{IsQuestionReply, MayFail, refused_question_line}
 use Rattle.cspf_questions.specs.declared.error.QuestionError.{QuestionError}
 use Rattle.cspf_questions.specs.declared.kinds.QuestionKinds.{QuestionKinds}
 use Rattle.cspf_questions.specs.declared.question.Question.{Question}
@@ -23,6 +24,8 @@ use Rattle.cspf_rows.specs.declared.row_error.RowError.TheVariants as error
 use Rattle.cspf_stream.specs.RefusedRows.{refused_row_line}
 use Rattle.cspf_stream.specs.StreamStops.{FailsOf}
 use Rattle.cspf_client.specs.SessionStates.{SessionState}
+use Rattle.cspf_client.specs.declared.error.RowFault.{RowFault}
+use Rattle.cspf_client.specs.declared.error.RowFault.TheVariants as row_fault
 
 -- Before the client answers row `place`, it reads the count of published batches. This reading is a
 -- step of the journal, and follows all steps that the client has seen. The step has the number of
@@ -109,14 +112,25 @@ abbrev pub IsClientRowUnanswered : AskError → ℕ → SessionState → Result 
 IsClientRowUnanswered fault place s (Ok (row.Ask q)) t = IsRequestUnanswered place fault s t
 IsClientRowUnanswered fault place s other t = IsRefusalMissing fault s t
 
+-- The question isn't answered, because of this fault. After the fault `Undecided`, the client has
+-- read the count as before an answer, and the question is one that may be undecided.
+abbrev pub IsQuestionUnanswered : ℕ → Question → RowFault → SessionState → SessionState → Type 0
+IsQuestionUnanswered place question (row_fault.Ask why) s t = IsRequestUnanswered place why s t
+IsQuestionUnanswered place question row_fault.Undecided s t = MayFail question pair_error.Undecided × ReadsCount place s t
+
+-- the fault is an error of an ask for which this holds
+abbrev pub IsAskFault : RowFault → (AskError → Type 0) → Type 0
+IsAskFault (row_fault.Ask why) P = P why
+IsAskFault row_fault.Undecided P = ⊥
+
 -- the row that was read in this way isn't answered because of this fault; `t` is the state afterwards
-abbrev pub IsReadUnanswered : AskError → ℕ → SessionState → ReadFields → SessionState → Type 0
-IsReadUnanswered fault place s (reading.Row r) t = IsClientRowUnanswered fault place s r t
-IsReadUnanswered fault place s (reading.Question question) t = IsRequestUnanswered place fault s t
-IsReadUnanswered fault place s (reading.Refused why) t = IsRefusalMissing fault s t
+abbrev pub IsReadUnanswered : RowFault → ℕ → SessionState → ReadFields → SessionState → Type 0
+IsReadUnanswered fault place s (reading.Row r) t = IsAskFault fault (λ why. IsClientRowUnanswered why place s r t)
+IsReadUnanswered fault place s (reading.Question question) t = IsQuestionUnanswered place question fault s t
+IsReadUnanswered fault place s (reading.Refused refused) t = IsAskFault fault (λ why. IsRefusalMissing why s t)
 
 -- The row with these fields isn't answered because of this fault, if questions of these kinds are
 -- answered. `t` is the state afterwards. Memory may be refused before the row is read.
-abbrev pub IsClientUnanswered : QuestionKinds → AskError → FailsOf SessionState
+abbrev pub IsClientUnanswered : QuestionKinds → RowFault → FailsOf SessionState
 IsClientUnanswered kinds fault place s fields t =
-    IsReadUnanswered fault place s (read_fields kinds fields) t ⊎ IsRefusalMissing fault s t
+    IsReadUnanswered fault place s (read_fields kinds fields) t ⊎ IsAskFault fault (λ why. IsRefusalMissing why s t)

@@ -1,7 +1,6 @@
 -- The answers to a client, and the client's state after its stream of requests has ended or stopped
 -- early.
 use Rattle.std.specs.Prelude.{◌≡◌, ℕ, Bool, List, Option, MatchResult}
-use Rattle.cspf_publish.specs.declared.errors.AskError.{AskError}
 use Rattle.cspf_stream.specs.RowAnswers.{AreAnswered, AreAllAnswered}
 use Rattle.cspf_stream.specs.StreamStops.{IsStreamStopped}
 use Rattle.cspf_stream.specs.declared.error.StreamStop.{StreamStop}
@@ -11,12 +10,13 @@ use Rattle.cspf_questions.specs.declared.kinds.QuestionKinds.{QuestionKinds}
 use Rattle.cspf_client.specs.ErrorNames.{client_error_of}
 use Rattle.cspf_client.specs.ServingStates.{ServingState, unread_rows}
 use Rattle.cspf_client.specs.declared.error.ClientError.{ClientError}
+use Rattle.cspf_client.specs.declared.error.RowFault.{RowFault}
 
 -- A client that answers questions of these kinds has a stream of requests that stops, and `why` is the client's error. Any rows may be left, and a
 -- read may have failed or not. The error isn't `Ahead`, because the check for this error comes
 -- later.
 pub record IsClientStopped (kinds : QuestionKinds) (why : ClientError) (all : Option (List (List (List ℕ)))) (s t : SessionState) (old new : Option (List ℕ)) : Type 0 where
-  pub stop : StreamStop AskError
+  pub stop : StreamStop RowFault
   pub error : why ≡ client_error_of stop
   pub left : Option (List (List (List ℕ)))
   pub failed : Bool

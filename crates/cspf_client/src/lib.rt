@@ -21,7 +21,7 @@ mod replies;
 mod session;
 
 pub use client::{Client, ServedClient, ServingClient};
-pub use error::ClientError;
+pub use error::{ClientError, RowFault};
 pub use laws::{clients_go_forward, replies_are_fresh};
 pub use permits::Permits;
 pub use reopens::Reopens;

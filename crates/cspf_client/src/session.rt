@@ -6,12 +6,15 @@ ghost use Rattle.cspf_ero.specs.ReplyLine.{IsReply};
 ghost use Rattle.cspf_model.specs.Outcome.{answer_of};
 ghost use Rattle.cspf_publish.specs.AskerStates.{known_of};
 ghost use Rattle.cspf_publish.specs.KnownBatches.{AreFirstOf};
-ghost use Rattle.cspf_client.specs.ClientRows.{IsClientRowAnswered, IsClientRowUnanswered, IsQuestionAnswered, IsReadAnswered, IsReadUnanswered, IsRefusedQuestion, IsRefusedRow, IsRefusalMissing, IsRequestAnswered, IsRequestUnanswered};
-ghost use Rattle.cspf_questions.specs.QuestionLines.{IsQuestionReply};
+ghost use Rattle.cspf_client.specs.ClientRows.{IsClientRowAnswered, IsClientRowUnanswered, IsQuestionAnswered, IsQuestionUnanswered, IsReadAnswered, IsReadUnanswered, IsRefusedQuestion, IsRefusedRow, IsRefusalMissing, IsRequestAnswered, IsRequestUnanswered};
+ghost use Rattle.cspf_questions.specs.QuestionLines.{IsQuestionReply, MayFail};
+ghost use Rattle.cspf_disjoint.specs.declared.error.PairError.{PairError};
+ghost use Rattle.cspf_client.specs.ErrorNames.{fault_of_answer};
 ghost use Rattle.cspf_questions.specs.QuestionRows.{read_fields};
 ghost use Rattle.csv.specs.Records.{fields_of};
 
 use crate::entrance::Entrance;
+use crate::error::RowFault;
 use cspf_db::Table;
 use cspf_ero::reply_line;
 use cspf_model::Request;
@@ -79,11 +82,15 @@ fn question_line(
     question: &Question,
     table: Table,
     version: u32,
-) -> Result<Vec<u8>, AskError>
+) -> Result<Vec<u8>, RowFault>
     ensures line { IfOk result (λ line. IsQuestionReply table version question.now line.items) }
-    ensures memory { IfErr result (λ why. why ≡ AskError.Memory) }
+    ensures fault { IfErr result (λ fault. (why : PairError) × MayFail question.now why
+        × (fault ≡ fault_of_answer why)) }
 {
-    Ok(question.reply(alloc, table, version)?)
+    match question.reply(alloc, table, version) {
+        Ok(line) => Ok(line),
+        Err(why) => Err(RowFault::of(why)),
+    }
 }
 
 impl Session {
@@ -178,10 +185,11 @@ impl Session {
         alloc: Global,
         place: u64,
         question: &Question,
-    ) -> Result<Vec<u8>, AskError>
+    ) -> Result<Vec<u8>, RowFault>
         ensures answered { IfOk result (λ line.
             IsQuestionAnswered place question.now self.old line.items self.new) }
-        ensures failed { IfErr result (λ why. IsRequestUnanswered place why self.old self.new) }
+        ensures failed { IfErr result (λ fault.
+            IsQuestionUnanswered place question.now fault self.old self.new) }
         ensures refused { self.new.refused ≡ self.old.refused }
     {
         let row = RowOfReader {
@@ -191,7 +199,7 @@ impl Session {
         let _read = self.asker.catch_up(&mut self.steps, row);
         let table = match self.asker.table(alloc) {
             Ok(table) => table,
-            Err(why) => return Err(why),
+            Err(why) => return Err(RowFault::Ask(why)),
         };
         question_line(alloc, question, table, self.asker.seen())
     }
@@ -226,10 +234,11 @@ impl Session {
         alloc: Global,
         place: u64,
         question: &Question,
-    ) -> Result<Vec<u8>, AskError>
+    ) -> Result<Vec<u8>, RowFault>
         ensures answered { IfOk result (λ line.
             IsQuestionAnswered place question.now self.old line.items self.new) }
-        ensures failed { IfErr result (λ why. IsRequestUnanswered place why self.old self.new) }
+        ensures failed { IfErr result (λ fault.
+            IsQuestionUnanswered place question.now fault self.old self.new) }
         ensures refused { self.new.refused ≡ self.old.refused }
     {
         if entrance.was_read.replace(false) {
@@ -279,7 +288,7 @@ impl Session {
         alloc: Global,
         place: u64,
         read: &ReadFields,
-    ) -> Result<Vec<u8>, AskError>
+    ) -> Result<Vec<u8>, RowFault>
         requires { self.old.refused < place }
         ensures answered { IfOk result (λ line.
             IsReadAnswered place self.old read.now line.items self.new) }
@@ -288,11 +297,17 @@ impl Session {
         ensures refused { self.new.refused ≤ self.old.refused + 1 }
     {
         match read {
-            ReadFields::Row(row) => self.answer_row(entrance, alloc, place, *row),
+            ReadFields::Row(row) => match self.answer_row(entrance, alloc, place, *row) {
+                Ok(line) => Ok(line),
+                Err(why) => Err(RowFault::Ask(why)),
+            },
             ReadFields::Question(question) => {
                 self.question_in_turn(entrance, alloc, place, question)
             }
-            ReadFields::Refused(why) => self.refuse_question(alloc, place, *why),
+            ReadFields::Refused(why) => match self.refuse_question(alloc, place, *why) {
+                Ok(line) => Ok(line),
+                Err(fault) => Err(RowFault::Ask(fault)),
+            },
         }
     }
 
@@ -343,7 +358,7 @@ impl Session {
 }
 
 impl<'a, R: Wait, L: Ledger, K: Kinds> Answering<Entrance<'a, R, L, K>> for Session {
-    type Fault = AskError;
+    type Fault = RowFault;
 
     ghost use Rattle.std.specs.Prelude.{◌<◌};
     ghost use Rattle.cspf_client.specs.ClientRows.{IsClientAnswered, IsClientUnanswered};
@@ -360,10 +375,10 @@ impl<'a, R: Wait, L: Ledger, K: Kinds> Answering<Entrance<'a, R, L, K>> for Sess
         alloc: Global,
         place: u64,
         fields: &ByteRecord,
-    ) -> Result<Vec<u8>, AskError> {
+    ) -> Result<Vec<u8>, RowFault> {
         let read = match read_fields::<K>(alloc, fields) {
             Ok(read) => read,
-            Err(why) => return Err(why),
+            Err(why) => return Err(RowFault::Ask(why)),
         };
         self.answer_fields(entrance, alloc, place, &read)
     }

@@ -1,6 +1,6 @@
 -- Each line that has a claim is compared with the right reply. A claim says that a line is still to
 -- be compared.
-use Rattle.std.proofs.Common.{◌≡◌, ℕ, ◌<◌, ◌⊎◌, ◌↔◌, Bool, IsTrue, suc, zero, List, [], ◌∷◌, Some, length, take, get_or, inl, inr, refl, sym, ap, subst, ◌∙◌, arith}
+use Rattle.std.proofs.Common.{◌≡◌, ℕ, ◌<◌, ◌⊎◌, Bool, suc, zero, List, [], ◌∷◌, Some, length, take, get_or, inl, inr, refl, sym, ap, subst, ◌∙◌, arith}
 use Rattle.std.proofs.lemmas.Bool.{cases_eq}
 use Rattle.std.proofs.lemmas.List.{length-set, get_or_default}
 use Rattle.std.proofs.lemmas.Option.{slice_get_within, slice_get-get_or}
@@ -11,7 +11,7 @@ use Rattle.cspf_model.specs.Changes.{database_after}
 use Rattle.cspf_judge.specs.declared.audits.claim.Claim.{Claim}
 use Rattle.cspf_judge.specs.declared.audits.finding.Finding.{Finding}
 use Rattle.cspf_judge.specs.declared.audits.finding.Finding.TheVariants as finding
-use Rattle.cspf_judge.specs.Asks.{AskSpec}
+use Rattle.cspf_judge.specs.Asks.{AskSpec, IsJudged}
 use Rattle.cspf_judge.specs.Findings.{IsFindingBy, AreFindingsBy}
 use Rattle.cspf_judge.proofs.Lookups.{one_element, get-set_same, get-set_other}
 use Rattle.cspf_judge.specs.Reading.{IsClaim, IsClaimed, AreClaims, AreOpenFindings}
@@ -41,19 +41,19 @@ module _ {A : Type 0} (spec : AskSpec A) where
 
   module _ (batches : List NumberedChanges) (requests : List A) (lines : List (List ℕ)) (claim : Claim) (rest : List Claim) (findings : List Finding)
       (open_ones : AreOpenFindings spec batches requests lines (claim ∷ rest) findings) (is_claim : IsClaim spec requests (length batches) lines claim) where
-    -- `right` says whether this line is the right reply to this request in this database. The
-    -- database, the request and the line are those of the claim. So `right` also says whether the
-    -- claim's line is the right reply.
+    -- `right` says whether the audit finds that this line is the right reply to this request in this
+    -- database. The database, the request and the line are those of the claim. So `right` also says
+    -- it of the claim's line.
     pub asked_of_claim : (d : Database) (q : A) (line : List ℕ) (right : Bool) → d ≡ database_after (take claim.version batches)
         → claim.request < length requests → q ≡ get_or requests claim.request q → claim.line < length lines → line ≡ get_or lines claim.line line
-        → IsTrue right ↔ spec.answers d q claim.version line
-        → IsTrue right ↔ spec.answers (database_after (take claim.version batches)) is_claim.q claim.version is_claim.line
+        → IsJudged spec d q claim.version line right
+        → IsJudged spec (database_after (take claim.version batches)) is_claim.q claim.version is_claim.line right
     asked_of_claim d q line right here asked is_q there is_line test =
         let same_q : q ≡ is_claim.q = one_element requests claim.request claim.request q is_claim.q (read_at requests claim.request q asked is_q) is_claim.is_request refl in
         let same_line : line ≡ is_claim.line = one_element lines claim.line claim.line line is_claim.line (read_at lines claim.line line there is_line) is_claim.is_line refl in
-        subst (λ e. IsTrue right ↔ spec.answers e is_claim.q claim.version is_claim.line) here
-        (subst (λ r. IsTrue right ↔ spec.answers d r claim.version is_claim.line) same_q
-        (subst (λ l. IsTrue right ↔ spec.answers d q claim.version l) same_line test))
+        subst (λ e. IsJudged spec e is_claim.q claim.version is_claim.line right) here
+        (subst (λ r. IsJudged spec d r claim.version is_claim.line right) same_q
+        (subst (λ l. IsJudged spec d q claim.version l right) same_line test))
 
     -- if the line of the first claim is the right reply, only the lines of the later claims are still
     -- to be compared
@@ -76,7 +76,7 @@ module _ {A : Type 0} (spec : AskSpec A) where
       (open_ones : AreOpenFindings spec batches requests lines (claim ∷ rest) findings) (is_claim : IsClaim spec requests (length batches) lines claim) where
     -- If the line of the first claim isn't the right reply, its finding becomes `Altered`. Then only
     -- the lines of the later claims are still to be compared.
-    pub altered_step : ¬ spec.answers (database_after (take claim.version batches)) is_claim.q claim.version is_claim.line
+    pub altered_step : spec.differs (database_after (take claim.version batches)) is_claim.q claim.version is_claim.line
         → AreOpenFindings spec batches requests lines rest (slice_set findings claim.line finding.Altered)
     altered_step wrong = record {
       counted = length-set findings claim.line finding.Altered ∙ open_ones.counted;

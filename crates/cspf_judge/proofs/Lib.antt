@@ -9,8 +9,9 @@ pub mod SnapshotMade
 pub mod RisingLists
 pub mod OneSnapshot
 pub mod Lookups
-pub mod OneQuestionLine
-pub mod ExceptHeads
+pub mod OneExceptLine
+pub mod Judgments
+pub mod QuestionHeads
 pub mod ReplyComparison
 pub mod LineCuts
 pub mod BatchSteps

@@ -6,6 +6,7 @@ use Rattle.cspf_rows.specs.Records.{rows_of, Records}
 use Rattle.cspf_judge.specs.FaultWords.{fault_words}
 use Rattle.cspf_judge.specs.AuditErrors.{IsAuditOf, IsAuditError}
 use Rattle.cspf_judge.specs.QuestionAudits.{IsQuestionAuditOf, IsQuestionAuditError}
+use Rattle.cspf_questions.specs.declared.kinds.QuestionKinds.{QuestionKinds}
 use Rattle.cspf_judge.specs.declared.audits.question_audit_error.QuestionAuditError.{QuestionAuditError}
 use Rattle.cspf_judge.specs.declared.audits.question_audit_error.QuestionAuditError.TheVariants as question_error
 use Rattle.cspf_judge.specs.declared.audits.audit_error.AuditError.{AuditError}
@@ -14,7 +15,7 @@ use Rattle.cspf_judge.specs.declared.audits.faults.Audit.{Audit}
 use Rattle.cspf_judge.specs.declared.audits.faults.AuditFault.{AuditFault}
 use Rattle.cspf_stream.specs.declared.batch_refusal.BatchRefusal.TheVariants as refusal
 use Rattle.cspf_stream.specs.Lines.{refused_batch_line, too_many_line}
-use Rattle.cspf_judge.specs.Inputs.{torn_line, refused_except_line, IsFaultLine}
+use Rattle.cspf_judge.specs.Inputs.{torn_line, refused_question_row_line, IsFaultLine}
 
 -- the line of a fault
 abbrev pub fault_line : AuditFault → List ℕ
@@ -50,7 +51,7 @@ IsAuditErrorLine (error.SameId row) line = line ≡ same_id_line row
 -- The line that refuses streams in which rows also ask questions.
 abbrev pub IsQuestionAuditErrorLine : QuestionAuditError → List ℕ → Type 0
 IsQuestionAuditErrorLine (question_error.Audit why) line = IsAuditErrorLine why line
-IsQuestionAuditErrorLine (question_error.Except row fault) line = line ≡ refused_except_line row fault
+IsQuestionAuditErrorLine (question_error.Question row why) line = line ≡ refused_question_row_line row why
 
 -- The lines are the lines of the audit, or one line that refuses the streams. `is_audit` says what the
 -- audit of three streams is. `is_line` gives the line of an error, and `is_error` says which error the
@@ -67,7 +68,7 @@ IsAuditRunBy {E} is_audit is_line is_error journal requests replies lines status
 abbrev pub IsAuditRun : Option (List ℕ) → Option (List ℕ) → Option (List ℕ) → List ℕ → ℕ → Type 0
 IsAuditRun journal requests replies lines status = IsAuditRunBy IsAuditOf IsAuditErrorLine IsAuditError journal requests replies lines status
 
--- The lines are the lines of the audit of rows that also ask questions, or one line that refuses the
+-- The lines are the lines of the audit of rows that also ask questions of these kinds, or one line that refuses the
 -- streams.
-abbrev pub IsQuestionAuditRun : Option (List ℕ) → Option (List ℕ) → Option (List ℕ) → List ℕ → ℕ → Type 0
-IsQuestionAuditRun journal requests replies lines status = IsAuditRunBy IsQuestionAuditOf IsQuestionAuditErrorLine IsQuestionAuditError journal requests replies lines status
+abbrev pub IsQuestionAuditRun : QuestionKinds → Option (List ℕ) → Option (List ℕ) → Option (List ℕ) → List ℕ → ℕ → Type 0
+IsQuestionAuditRun kinds journal requests replies lines status = IsAuditRunBy (IsQuestionAuditOf kinds) IsQuestionAuditErrorLine (IsQuestionAuditError kinds) journal requests replies lines status

@@ -103,4 +103,4 @@ IsAuditFailure (audit_error.SameId row) e = ⊥
 -- The error of a run whose streams can't be audited, where rows also ask questions.
 abbrev pub IsQuestionAuditFailure : QuestionAuditError → JudgeError → Type 0
 IsQuestionAuditFailure (question_audit_error.Audit why) e = IsAuditFailure why e
-IsQuestionAuditFailure (question_audit_error.Except row fault) e = ⊥
+IsQuestionAuditFailure (question_audit_error.Question row why) e = ⊥

@@ -36,7 +36,7 @@ requests_error_of (requests.NotAsk row) = error.Requests (requests.NotAsk row)
 -- the error of an audit of rows that also ask questions, if reading these rows fails
 abbrev pub question_audit_error_of : AskedError → QuestionAuditError
 question_audit_error_of (asked.Requests why) = question_error.Audit (requests_error_of why)
-question_audit_error_of (asked.Except row fault) = question_error.Except row fault
+question_audit_error_of (asked.Question row why) = question_error.Question row why
 
 -- the error of the audit if reading the replies fails: `Memory` if memory was refused, and else
 -- `Device`

@@ -34,7 +34,12 @@ IsRightReply d q version line =
 
 -- requests, and the lines that answer them
 abbrev pub request_spec : AskSpec Request
-request_spec = record { id = λ (q : Request). q.id; begins = BeginsWithHead; answers = IsRightReply }
+request_spec = record {
+  id = λ (q : Request). q.id;
+  begins = BeginsWithHead;
+  answers = IsRightReply;
+  differs = λ d q version line. ¬ IsRightReply d q version line;
+}
 
 module _ {A : Type 0} (spec : AskSpec A) where
   -- a line that is skipped doesn't begin as an answer
@@ -73,7 +78,7 @@ module _ {A : Type 0} (spec : AskSpec A) where
   IsFindingBy batches rows before line finding.Altered =
       (q : A) × (version : ℕ) × IsFirstReplyBy rows before line q version
       × (version ≤ length batches)
-      × ¬ spec.answers (database_after (take version batches)) q version line
+      × spec.differs (database_after (take version batches)) q version line
   IsFindingBy batches rows before line finding.Good =
       (q : A) × (version : ℕ) × IsFirstReplyBy rows before line q version
       × (version ≤ length batches)

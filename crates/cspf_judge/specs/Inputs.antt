@@ -14,8 +14,8 @@ use Rattle.cspf_rows.specs.Journal.{IsJournal}
 use Rattle.cspf_rows.specs.Requests.{AreRequests, IsRequestsFault}
 use Rattle.cspf_rows.specs.Words.{words}
 use Rattle.cspf_stream.specs.Lines.{too_many_line}
-use Rattle.cspf_questions.specs.QuestionWords.{except_words}
-use Rattle.cspf_questions.specs.declared.error.ExceptFault.{ExceptFault}
+use Rattle.cspf_questions.specs.QuestionWords.{question_words}
+use Rattle.cspf_questions.specs.declared.error.QuestionError.{QuestionError}
 
 -- the line that refuses a torn journal: rows follow its `count` whole batches
 abbrev pub torn_line : ℕ → List ℕ
@@ -26,10 +26,10 @@ abbrev pub refused_request_line : ℕ → RowError → List ℕ
 refused_request_line row error =
     codes "request row " ++ decimal row ++ codes " refused: " ++ words error ++ codes "\n"
 
--- the line that refuses the row of a question with this number, because its exclusions can't be read
-abbrev pub refused_except_line : ℕ → ExceptFault → List ℕ
-refused_except_line row fault =
-    codes "request row " ++ decimal row ++ codes " refused: " ++ except_words fault ++ codes "\n"
+-- the line that refuses the request row with this number, if the row is that of a question
+abbrev pub refused_question_row_line : ℕ → QuestionError → List ℕ
+refused_question_row_line row error =
+    codes "request row " ++ decimal row ++ codes " refused: " ++ question_words error ++ codes "\n"
 
 -- A journal of at most 1,000,000 records has these batches. If `accept_torn` is true, records after
 -- the last whole batch are skipped. If it is false, there are no such records.

@@ -11,6 +11,7 @@ use crate::{
     Audit, AuditError, EarlyEnd, JudgeError, JudgeLine, QuestionAuditError, audit,
     audit_with_questions, put_line, refuse,
 };
+use cspf_questions::QuestionKinds;
 use cspf_stream::{BatchRefusal, StreamLine};
 use std::alloc::Global;
 use std::io::{Read, Write};
@@ -40,23 +41,25 @@ pub fn run_audit<W: Write, R: Read + Drop, Q: Read + Drop, P: Read + Drop>(
     }
 }
 
-/// Audits replies to rows that ask, `ask` rows and the rows of questions. It does the same as
+/// Audits replies to rows that ask, `ask` rows and the rows of questions of these kinds. It does the
+/// same as
 /// `run_audit`, for the lines that `IsQuestionAuditRun` defines.
 pub fn run_audit_with_questions<W: Write, R: Read + Drop, Q: Read + Drop, P: Read + Drop>(
     alloc: Global,
+    kinds: QuestionKinds,
     journal: R,
     requests: Q,
     replies: P,
     writer: &mut W,
 ) -> Result<u8, JudgeError>
     ensures whole { IfOk result (λ status.
-        Writes (W.contents writer.old) (W.contents writer.new) (λ lines. IsQuestionAuditRun
+        Writes (W.contents writer.old) (W.contents writer.new) (λ lines. IsQuestionAuditRun kinds
         (R.remaining journal) (Q.remaining requests) (P.remaining replies) lines status)) }
     ensures stopped { OnErr result (HasBegun (W.contents writer.old) (W.contents writer.new)
-        (λ lines. (status : ℕ) × IsQuestionAuditRun (R.remaining journal) (Q.remaining requests)
+        (λ lines. (status : ℕ) × IsQuestionAuditRun kinds (R.remaining journal) (Q.remaining requests)
         (P.remaining replies) lines status)) }
 {
-    match audit_with_questions(alloc, journal, requests, replies) {
+    match audit_with_questions(alloc, kinds, journal, requests, replies) {
         Ok(found) => write_audit(alloc, &found, writer),
         Err(error) => refuse(alloc, question_audit_end_of(error), writer),
     }
@@ -69,8 +72,8 @@ fn question_audit_end_of(error: QuestionAuditError) -> EarlyEnd
 {
     match error {
         QuestionAuditError::Audit(error) => audit_end_of(error),
-        QuestionAuditError::Except { row, fault } => {
-            EarlyEnd::Refused(JudgeLine::RefusedExcept { row, fault })
+        QuestionAuditError::Question { row, error } => {
+            EarlyEnd::Refused(JudgeLine::RefusedQuestion { row, error })
         }
     }
 }

@@ -1,7 +1,7 @@
 //! The lines of a run over a journal, requests or replies, except reply lines.
 
 use crate::AuditFault;
-use cspf_questions::{ExceptFault, QuestionError};
+use cspf_questions::QuestionError;
 use cspf_rows::RowError;
 use cspf_stream::StreamLine;
 use std::alloc::{AllocError, Global};
@@ -16,8 +16,8 @@ pub enum JudgeLine {
     Torn { count: usize },
     /// The request row with this number is refused.
     RefusedRequest { row: u32, error: RowError },
-    /// The row of a question with this number is refused, because its exclusions can't be read.
-    RefusedExcept { row: u32, fault: ExceptFault },
+    /// The request row with this number, the row of a question, is refused.
+    RefusedQuestion { row: u32, error: QuestionError },
     /// The request row with this number has the same id as an earlier row.
     SameId { row: u32 },
     /// The audit found this fault.
@@ -41,10 +41,9 @@ impl fmt::Display for JudgeLine {
                 f,
                 "request row {row} refused: {error}\n"
             ),
-            JudgeLine::RefusedExcept { row, fault } => write!(
+            JudgeLine::RefusedQuestion { row, error } => write!(
                 f,
-                "request row {row} refused: {}\n",
-                QuestionError::Except(fault)
+                "request row {row} refused: {error}\n"
             ),
             JudgeLine::SameId { row } => write!(f, "request row {row} refused: same-id\n"),
             JudgeLine::Fault { fault } => write!(f, "{fault}\n"),

@@ -1,5 +1,5 @@
 -- How one more record changes which rows that ask were read from a stream.
-use Rattle.std.proofs.Common.{◌≡◌, ℕ, ◌+◌, ◌<◌, ◌≤◌, ◌⊎◌, inl, inr, true, List, [], ◌∷◌, ◌++◌, map, length, Option, IfSome, Ok, Err, sym, ap, subst, ◌∙◌, arith}
+use Rattle.std.proofs.Common.{◌≡◌, ℕ, ◌+◌, ◌<◌, ◌≤◌, true, List, [], ◌∷◌, ◌++◌, map, length, Option, IfSome, Ok, Err, sym, ap, subst, ◌∙◌, arith}
 use Rattle.std.proofs.lemmas.List.{map-append, length-map}
 use Rattle.cspf_rows.specs.declared.limits.TheConstants.{MOST_ROWS}
 use Rattle.cspf_rows.specs.declared.requests_error.RequestsError.{RequestsError}
@@ -13,7 +13,6 @@ use Rattle.cspf_questions.specs.AskedReading.{IsRequestsRefusedAt, IsAskedRefuse
 use Rattle.cspf_questions.specs.declared.asked.AskedError.{AskedError}
 use Rattle.cspf_questions.specs.declared.asked.AskedError.TheVariants as asked_error
 use Rattle.cspf_questions.specs.declared.asked.AskedRow.{AskedRow}
-use Rattle.cspf_questions.specs.declared.error.QuestionError.TheVariants as question_error
 use Rattle.cspf_questions.specs.declared.kinds.QuestionKinds.{QuestionKinds}
 use Rattle.cspf_questions.specs.declared.reading.ReadFields.{ReadFields}
 use Rattle.cspf_questions.specs.declared.reading.ReadFields.TheVariants as reading
@@ -51,21 +50,15 @@ module _ (kinds : QuestionKinds) (said : List AskedRow) (all left next : Option 
   refused_requests requests_error.Device few refused = absurd refused
   refused_requests requests_error.TooManyRows few refused = absurd refused
   refused_requests (requests_error.Bad place error) few refused =
-      if_some_more all (λ rows asked. bad rows asked refused.1) behind_rows
-    where
-      bad : (rows : Records) → HasAskedBefore kinds rows count fields
-          → (read_fields kinds fields ≡ reading.Row (Err error)) ⊎ (read_fields kinds fields ≡ reading.Refused (question_error.Row error))
-          → IsFirstNotAsked kinds rows place (reading.Row (Err error)) ⊎ IsFirstNotAsked kinds rows place (reading.Refused (question_error.Row error))
-      bad rows asked (inl is) = inl (first_other place (reading.Row (Err error)) rows few refused.0 is asked)
-      bad rows asked (inr is) = inr (first_other place (reading.Refused (question_error.Row error)) rows few refused.0 is asked)
+      if_some_more all (λ rows asked. first_other place (reading.Row (Err error)) rows few refused.0 refused.1 asked) behind_rows
   refused_requests (requests_error.NotAsk place) few refused =
       let other = refused.1 in
       if_some_more all (λ rows asked. (other.0, other.1, first_other place (reading.Row (Ok other.0)) rows few refused.0 other.2 asked)) behind_rows
 
   pub refused_at : (why : AskedError) → count < MOST_ROWS → IsAskedRefusedAt (count + 1) (read_fields kinds fields) why → IfSome all (λ rows. IsAskedFault kinds rows why)
   refused_at (asked_error.Requests why) few refused = refused_requests why few refused
-  refused_at (asked_error.Except place fault) few refused =
-      if_some_more all (λ rows asked. first_other place (reading.Refused (question_error.Except fault)) rows few refused.0 refused.1 asked) behind_rows
+  refused_at (asked_error.Question place error) few refused =
+      if_some_more all (λ rows asked. first_other place (reading.Refused error) rows few refused.0 refused.1 asked) behind_rows
 
   -- if one more record follows `MOST_ROWS` records, the stream has too many rows
   pub one_too_many : count ≡ MOST_ROWS → IfSome all (λ rows. IsAskedFault kinds rows (asked_error.Requests requests_error.TooManyRows))

@@ -1,3 +1,4 @@
--- The lemmas on questions, and on streams of rows that ask.
+-- The lemmas on questions, on streams of rows that ask, and on runs that also answer questions.
 pub mod ExclusionParts
 pub mod AskedLemmas
+pub mod QuestionRuns

@@ -1,12 +1,11 @@
 -- Private: the error with which a stream of rows that ask is refused because of one of its records.
-use Rattle.std.specs.Prelude.{◌≡◌, ◌⊎◌, ℕ, Ok, Err}
+use Rattle.std.specs.Prelude.{◌≡◌, ℕ, Ok, Err}
 use Rattle.cspf_rows.specs.declared.row.Row.{Row}
 use Rattle.cspf_rows.specs.declared.requests_error.RequestsError.{RequestsError}
 use Rattle.cspf_rows.specs.declared.requests_error.RequestsError.TheVariants as requests_error
 use Rattle.cspf_rows.specs.Requests.{IsNoRequest}
 use Rattle.cspf_questions.specs.declared.asked.AskedError.{AskedError}
 use Rattle.cspf_questions.specs.declared.asked.AskedError.TheVariants as asked_error
-use Rattle.cspf_questions.specs.declared.error.QuestionError.TheVariants as question_error
 use Rattle.cspf_questions.specs.declared.reading.ReadFields.{ReadFields}
 use Rattle.cspf_questions.specs.declared.reading.ReadFields.TheVariants as reading
 
@@ -16,12 +15,11 @@ abbrev pub IsRequestsRefusedAt : ℕ → ReadFields → RequestsError → Type 0
 IsRequestsRefusedAt place read requests_error.Memory = Unit {0}
 IsRequestsRefusedAt place read requests_error.Device = ⊥
 IsRequestsRefusedAt place read requests_error.TooManyRows = ⊥
-IsRequestsRefusedAt place read (requests_error.Bad row error) =
-    (row ≡ place) × ((read ≡ reading.Row (Err error)) ⊎ (read ≡ reading.Refused (question_error.Row error)))
+IsRequestsRefusedAt place read (requests_error.Bad row error) = (row ≡ place) × (read ≡ reading.Row (Err error))
 IsRequestsRefusedAt place read (requests_error.NotAsk row) =
     (row ≡ place) × ((other : Row) × IsNoRequest other × (read ≡ reading.Row (Ok other)))
 
 -- the stream is refused with this error because of record `place`, which is read as `read`
 abbrev pub IsAskedRefusedAt : ℕ → ReadFields → AskedError → Type 0
 IsAskedRefusedAt place read (asked_error.Requests why) = IsRequestsRefusedAt place read why
-IsAskedRefusedAt place read (asked_error.Except row fault) = (row ≡ place) × (read ≡ reading.Refused (question_error.Except fault))
+IsAskedRefusedAt place read (asked_error.Question row error) = (row ≡ place) × (read ≡ reading.Refused error)

@@ -1,17 +1,17 @@
 -- Which rows that ask a stream has, or for which of its records the stream isn't read.
-use Rattle.std.specs.Prelude.{◌≡◌, ◌+◌, ◌≤◌, ◌⊎◌, ℕ, List, ◌∷◌, ◌++◌, map, length, Ok, Err}
+use Rattle.std.specs.Prelude.{◌≡◌, ◌+◌, ◌≤◌, ℕ, List, ◌∷◌, ◌++◌, map, length, Ok, Err}
 use Rattle.cspf_rows.specs.declared.limits.TheConstants.{MOST_ROWS}
 use Rattle.cspf_rows.specs.declared.row.Row.{Row}
 use Rattle.cspf_rows.specs.declared.row.Row.TheVariants as row
 use Rattle.cspf_rows.specs.declared.requests_error.RequestsError.{RequestsError}
 use Rattle.cspf_rows.specs.declared.requests_error.RequestsError.TheVariants as requests_error
 use Rattle.cspf_rows.specs.Requests.{IsNoRequest}
+use Rattle.cspf_questions.specs.QuestionLines.{question_id}
 use Rattle.cspf_questions.specs.QuestionRows.{read_fields}
 use Rattle.cspf_questions.specs.declared.asked.AskedError.{AskedError}
 use Rattle.cspf_questions.specs.declared.asked.AskedError.TheVariants as asked_error
 use Rattle.cspf_questions.specs.declared.asked.AskedRow.{AskedRow}
 use Rattle.cspf_questions.specs.declared.asked.AskedRow.TheVariants as asked_row
-use Rattle.cspf_questions.specs.declared.error.QuestionError.TheVariants as question_error
 use Rattle.cspf_questions.specs.declared.kinds.QuestionKinds.{QuestionKinds}
 use Rattle.cspf_questions.specs.declared.reading.ReadFields.{ReadFields}
 use Rattle.cspf_questions.specs.declared.reading.ReadFields.TheVariants as reading
@@ -19,7 +19,7 @@ use Rattle.cspf_questions.specs.declared.reading.ReadFields.TheVariants as readi
 -- the id of a row
 abbrev pub asked_id : AskedRow → ℕ
 asked_id (asked_row.Ask q) = q.id
-asked_id (asked_row.Question question) = question.request.id
+asked_id (asked_row.Question question) = question_id question
 
 -- what the record of a row is read as
 abbrev pub read_back : AskedRow → ReadFields
@@ -56,19 +56,16 @@ pub record AreTooManyAsked (kinds : QuestionKinds) (records : List (List (List �
   pub asked : HasAskedBefore kinds records MOST_ROWS fields
 
 -- The reason for which these records aren't read, if a stream of `ask` rows may have this reason,
--- too. Memory may be refused, and a read may fail, whatever the records are. A record is `Bad` if a
--- row of a database is refused with this error, or the row of a question.
+-- too. Memory may be refused, and a read may fail, whatever the records are.
 abbrev pub IsRequestsFaultOfAsked : QuestionKinds → List (List (List ℕ)) → RequestsError → Type 0
 IsRequestsFaultOfAsked kinds records requests_error.Memory = Unit {0}
 IsRequestsFaultOfAsked kinds records requests_error.Device = Unit {0}
 IsRequestsFaultOfAsked kinds records requests_error.TooManyRows = AreTooManyAsked kinds records
-IsRequestsFaultOfAsked kinds records (requests_error.Bad place error) =
-    IsFirstNotAsked kinds records place (reading.Row (Err error)) ⊎ IsFirstNotAsked kinds records place (reading.Refused (question_error.Row error))
+IsRequestsFaultOfAsked kinds records (requests_error.Bad place error) = IsFirstNotAsked kinds records place (reading.Row (Err error))
 IsRequestsFaultOfAsked kinds records (requests_error.NotAsk place) =
     (other : Row) × IsNoRequest other × IsFirstNotAsked kinds records place (reading.Row (Ok other))
 
 -- the reason for which these records aren't read as rows that ask
 abbrev pub IsAskedFault : QuestionKinds → List (List (List ℕ)) → AskedError → Type 0
 IsAskedFault kinds records (asked_error.Requests why) = IsRequestsFaultOfAsked kinds records why
-IsAskedFault kinds records (asked_error.Except place fault) =
-    IsFirstNotAsked kinds records place (reading.Refused (question_error.Except fault))
+IsAskedFault kinds records (asked_error.Question place error) = IsFirstNotAsked kinds records place (reading.Refused error)

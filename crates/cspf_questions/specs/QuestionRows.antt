@@ -1,5 +1,6 @@
 -- How a record is read as a question, or left to the rows of a database.
-use Rattle.std.specs.Prelude.{ℕ, ◌+◌, ◌==◌, ◌&&◌, nat_lt, if◌then◌else◌, List, [], ◌∷◌, length, codes, Result, Ok, Err}
+use Rattle.std.specs.Prelude.{ℕ, ◌+◌, ◌==◌, ◌&&◌, nat_lt, if◌then◌else◌, List, [], ◌∷◌, length, codes, Option, Some, None, Result, Ok, Err}
+use Rattle.std.specs.Str.{bytes_eq}
 use Rattle.std.specs.Option.{ok_or}
 use Rattle.cspf_addr.specs.ResultSteps.{◌>>=◌}
 use Rattle.cspf_addr.specs.HopLists.{parts_of}
@@ -12,11 +13,14 @@ use Rattle.cspf_rows.specs.FieldValues.{field}
 use Rattle.cspf_rows.specs.Rows.{row_of, ask_row_of, is_kind}
 use Rattle.cspf_except.specs.declared.exclusion.Exclusion.{Exclusion}
 use Rattle.cspf_except.specs.declared.exclusion.TheConstants.{MOST_EXCLUSIONS}
+use Rattle.cspf_pair.specs.declared.kind.Kind.{Kind}
+use Rattle.cspf_pair.specs.declared.kind.Kind.TheVariants as kind
 use Rattle.cspf_questions.specs.ExclusionText.{exclusion_of}
 use Rattle.cspf_questions.specs.declared.error.ExceptFault.{ExceptFault}
 use Rattle.cspf_questions.specs.declared.error.ExceptFault.TheVariants as fault
 use Rattle.cspf_questions.specs.declared.error.QuestionError.TheVariants as error
 use Rattle.cspf_questions.specs.declared.kinds.QuestionKinds.{QuestionKinds}
+use Rattle.cspf_questions.specs.declared.question.Question.TheVariants as question
 use Rattle.cspf_questions.specs.declared.reading.ReadFields.{ReadFields}
 use Rattle.cspf_questions.specs.declared.reading.ReadFields.TheVariants as reading
 
@@ -47,7 +51,7 @@ request_in (Ok other) = Err row_error.Kind
 -- what an `except` row is read as, by its request and its exclusions
 abbrev pub with_exclusions : Result Request RowError → Result (List Exclusion) ExceptFault → ReadFields
 with_exclusions (Err why) parts = reading.Refused (error.Row why)
-with_exclusions (Ok q) (Ok parts) = reading.Question (record { request = q; exclusions = parts })
+with_exclusions (Ok q) (Ok parts) = reading.Question (question.Except (record { request = q; exclusions = parts }))
 with_exclusions (Ok q) (Err why) = reading.Refused (error.Except why)
 
 -- An `except` row has 11 fields. The fields 2 to 10 are those of an `ask` row, and the last field
@@ -58,10 +62,36 @@ except_fields fields =
     then with_exclusions (request_in (ask_row_of fields)) (exclusions_of (field fields 11))
     else reading.Refused (error.Row row_error.Fields)
 
+-- the kind of pair that a text names
+unfoldable pub pair_kind_of : List ℕ → Option Kind
+pair_kind_of text =
+    if bytes_eq text (codes "circuits") then Some kind.Circuits
+    else (if bytes_eq text (codes "routers") then Some kind.Routers else None)
+
+-- the first nine fields, and an empty field
+abbrev pub without_hops : List (List ℕ) → List (List ℕ)
+without_hops fields =
+    field fields 1 ∷ field fields 2 ∷ field fields 3 ∷ field fields 4 ∷ field fields 5
+    ∷ field fields 6 ∷ field fields 7 ∷ field fields 8 ∷ field fields 9 ∷ [] ∷ []
+
+-- what a `pair` row is read as, by its request and its kind of pair
+abbrev pub with_kind : Result Request RowError → Option Kind → ReadFields
+with_kind (Err why) named = reading.Refused (error.Row why)
+with_kind (Ok q) (Some named) = reading.Question (question.Pair (record { request = q; kind = named }))
+with_kind (Ok q) None = reading.Refused error.PairKind
+
+-- A `pair` row has 10 fields. The fields 2 to 9 are those of an `ask` row, and the last field names
+-- the kind of pair. The request has no hops.
+abbrev pub pair_fields : List (List ℕ) → ReadFields
+pair_fields fields =
+    if length fields == 10
+    then with_kind (request_in (ask_row_of (without_hops fields))) (pair_kind_of (field fields 10))
+    else reading.Refused (error.Row row_error.Fields)
+
 -- What a record is read as, if questions of these kinds are answered. A record that is no row of a
 -- question is left to the rows of a database.
 unfoldable pub read_fields : QuestionKinds → List (List ℕ) → ReadFields
 read_fields kinds fields =
     if kinds.except && is_kind fields (codes "except")
     then except_fields fields
-    else reading.Row (row_of fields)
+    else (if kinds.pair && is_kind fields (codes "pair") then pair_fields fields else reading.Row (row_of fields))

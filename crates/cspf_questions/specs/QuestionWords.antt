@@ -17,3 +17,4 @@ except_words fault.Count = codes "except count"
 abbrev pub question_words : QuestionError → List ℕ
 question_words (error.Row why) = words why
 question_words (error.Except why) = except_words why
+question_words error.PairKind = codes "kind-of-pair"

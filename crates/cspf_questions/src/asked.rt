@@ -5,7 +5,7 @@ ghost use Rattle.cspf_rows.specs.ReadFaults.{stream_fault_of};
 ghost use Rattle.cspf_rows.specs.declared.requests_error.RequestsError.TheVariants as requests_error;
 ghost use Rattle.cspf_questions.specs.declared.asked.AskedError.TheVariants as asked_error;
 
-use crate::error::{ExceptFault, QuestionError};
+use crate::error::QuestionError;
 use crate::question::Question;
 use cspf_model::Request;
 use cspf_rows::{RecordError, RequestsError};
@@ -31,7 +31,7 @@ impl AskedRow {
     {
         match self {
             AskedRow::Ask(request) => request.id,
-            AskedRow::Question(question) => question.request.id,
+            AskedRow::Question(question) => question.id(),
         }
     }
 }
@@ -41,12 +41,12 @@ impl AskedRow {
 pub enum AskedError {
     /// The reason is one for which a stream of `ask` rows isn't read, either.
     Requests(RequestsError),
-    /// The row of a question has no exclusions that can be read.
-    Except {
+    /// The row of a question is refused.
+    Question {
         /// The number of the row in its stream.
         row: u32,
-        /// Why the field of the exclusions spells none.
-        fault: ExceptFault,
+        /// Why the row is refused.
+        error: QuestionError,
     },
 }
 
@@ -54,9 +54,7 @@ impl fmt::Display for AskedError {
     fn fmt<W: fmt::Write>(&self, f: &mut fmt::Formatter<W>) -> fmt::Result {
         match self {
             AskedError::Requests(why) => write!(f, "{why}"),
-            AskedError::Except { row, fault } => {
-                write!(f, "row {row}: {}", QuestionError::Except(*fault))
-            }
+            AskedError::Question { row, error } => write!(f, "row {row}: {error}"),
         }
     }
 }

@@ -12,7 +12,6 @@ ghost use Rattle.cspf_questions.specs.AskedReading.{IsAskedRefusedAt};
 ghost use Rattle.cspf_questions.specs.declared.asked.AskedError.TheVariants as asked_error;
 
 use crate::asked::{AskedError, AskedRow};
-use crate::error::QuestionError;
 use crate::kinds::QuestionKinds;
 use crate::reading::ReadFields;
 use cspf_rows::{MOST_ROWS, RequestsError, Row, next_record, open_records};
@@ -118,12 +117,10 @@ fn read_row(
     match ReadFields::of(alloc, kinds, fields)? {
         ReadFields::Row(Ok(Row::Ask(request))) => Ok(AskedRow::Ask(request)),
         ReadFields::Row(Ok(_)) => Err(AskedError::Requests(RequestsError::NotAsk { row: place })),
-        ReadFields::Row(Err(error)) | ReadFields::Refused(QuestionError::Row(error)) => {
+        ReadFields::Row(Err(error)) => {
             Err(AskedError::Requests(RequestsError::Bad { row: place, error }))
         }
         ReadFields::Question(question) => Ok(AskedRow::Question(question)),
-        ReadFields::Refused(QuestionError::Except(fault)) => {
-            Err(AskedError::Except { row: place, fault })
-        }
+        ReadFields::Refused(error) => Err(AskedError::Question { row: place, error }),
     }
 }

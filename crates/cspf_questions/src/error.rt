@@ -13,6 +13,8 @@ pub enum QuestionError {
     Row(RowError),
     /// The field of the exclusions spells none.
     Except(ExceptFault),
+    /// The last field isn't a kind of pair.
+    PairKind,
 }
 
 /// Why a field spells no exclusions.
@@ -38,6 +40,7 @@ impl fmt::Display for QuestionError {
             QuestionError::Row(error) => write!(f, "{error}"),
             QuestionError::Except(ExceptFault::Part { at }) => write!(f, "except {at}"),
             QuestionError::Except(ExceptFault::Count) => f.write_str("except count"),
+            QuestionError::PairKind => f.write_str("kind-of-pair"),
         }
     }
 }

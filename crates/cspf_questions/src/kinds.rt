@@ -8,6 +8,8 @@ ghost use Rattle.std.specs.Prelude.{◌≡◌, true, false};
 pub struct QuestionKinds {
     /// Whether `except` rows are answered.
     pub except: bool,
+    /// Whether `pair` rows are answered.
+    pub pair: bool,
 }
 
 /// A type that says which kinds of questions are answered, so that contracts can say it, too.
@@ -26,10 +28,13 @@ pub trait Kinds {
 pub struct AnswersNone;
 
 impl Kinds for AnswersNone {
-    ghost kinds = { record { except = false } };
+    ghost kinds = { record { except = false; pair = false } };
 
     fn value() -> QuestionKinds {
-        QuestionKinds { except: false }
+        QuestionKinds {
+            except: false,
+            pair: false,
+        }
     }
 }
 
@@ -37,9 +42,40 @@ impl Kinds for AnswersNone {
 pub struct AnswersExcept;
 
 impl Kinds for AnswersExcept {
-    ghost kinds = { record { except = true } };
+    ghost kinds = { record { except = true; pair = false } };
 
     fn value() -> QuestionKinds {
-        QuestionKinds { except: true }
+        QuestionKinds {
+            except: true,
+            pair: false,
+        }
+    }
+}
+
+/// `pair` rows are answered.
+pub struct AnswersPairs;
+
+impl Kinds for AnswersPairs {
+    ghost kinds = { record { except = false; pair = true } };
+
+    fn value() -> QuestionKinds {
+        QuestionKinds {
+            except: false,
+            pair: true,
+        }
+    }
+}
+
+/// `except` rows and `pair` rows are answered.
+pub struct AnswersBoth;
+
+impl Kinds for AnswersBoth {
+    ghost kinds = { record { except = true; pair = true } };
+
+    fn value() -> QuestionKinds {
+        QuestionKinds {
+            except: true,
+            pair: true,
+        }
     }
 }

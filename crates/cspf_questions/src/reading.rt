@@ -8,7 +8,8 @@ ghost use Rattle.cspf_questions.specs.QuestionRows.{request_in};
 use crate::error::QuestionError;
 use crate::field::{read_exclusions, text};
 use crate::kinds::QuestionKinds;
-use crate::question::Question;
+use crate::pair_row::read_pair;
+use crate::question::{ExceptQuestion, Question};
 use cspf_model::Request;
 use cspf_rows::{Row, RowError};
 use csv::ByteRecord;
@@ -37,8 +38,11 @@ impl ReadFields {
     ) -> Result<ReadFields, AllocError>
         ensures { IfOk result (λ read. read ≡ read_fields kinds (fields_of fields.now)) }
     {
-        if kinds.except && text(fields, 1) == b"except".as_slice() {
+        let kind = text(fields, 1);
+        if kinds.except && kind == b"except".as_slice() {
             ReadFields::except(alloc, fields)
+        } else if kinds.pair && kind == b"pair".as_slice() {
+            read_pair(alloc, fields)
         } else {
             Ok(ReadFields::Row(Row::read(fields)))
         }
@@ -56,17 +60,17 @@ impl ReadFields {
             Err(why) => return Ok(ReadFields::Refused(QuestionError::Row(why))),
         };
         match read_exclusions(alloc, text(fields, 11))? {
-            Ok(exclusions) => Ok(ReadFields::Question(Question {
+            Ok(exclusions) => Ok(ReadFields::Question(Question::Except(ExceptQuestion {
                 request,
                 exclusions,
-            })),
+            }))),
             Err(why) => Ok(ReadFields::Refused(QuestionError::Except(why))),
         }
     }
 }
 
 /// The request in the fields 2 to 10 of a record.
-fn asked(fields: &ByteRecord) -> Result<Request, RowError>
+pub(crate) fn asked(fields: &ByteRecord) -> Result<Request, RowError>
     ensures { result ≡ request_in (ask_row_of (fields_of fields.now)) }
 {
     match Row::ask(fields)? {

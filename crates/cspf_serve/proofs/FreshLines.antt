@@ -21,7 +21,7 @@ use Rattle.cspf_journal.proofs.JournalSteps.{found_among}
 use Rattle.cspf_journal.proofs.Prefixes.{length-prefix}
 use Rattle.cspf_publish.specs.JournalSteps.{KnownSteps, AreOrderedFrom, count_of}
 use Rattle.cspf_publish.specs.KnownBatches.{KnownBatches}
-use Rattle.cspf_publish.specs.declared.errors.AskError.{AskError}
+use Rattle.cspf_client.specs.declared.error.RowFault.{RowFault}
 use Rattle.cspf_publish.specs.Histories.{BeginsWith}
 use Rattle.cspf_stream.specs.RowAnswers.{AreAnswered, AreAllAnswered}
 use Rattle.cspf_stream.specs.StreamStops.{FailsOf, NeverFails, HasMoreThan, StopsBetween, StopsInRow, IsRowStopped, HasStopped, IsStreamStopped, stream_error_of}
@@ -186,7 +186,7 @@ module _ (kinds : QuestionKinds) (all : KnownSteps) (session : SessionSteps) (nu
       written = a.written;
     }
 
-    stopped : (why : StreamStop AskError) → IsStreamStopped (IsClientAnswered kinds) (IsClientUnanswered kinds) why rows left failed s t old new
+    stopped : (why : StreamStop RowFault) → IsStreamStopped (IsClientAnswered kinds) (IsClientUnanswered kinds) why rows left failed s t old new
         → HasStopped (IsAnsweredFresh kinds all.steps session number) Nothing (stream_error_of why) rows left failed tt tt old new
     stopped (stop.Stream stream_error.Memory) (inl a) = inl (a.0, between a.1)
     stopped (stop.Stream stream_error.Memory) (inr a) = inr (in_row NeverFails never_forward stream_error.Memory a)

@@ -26,7 +26,9 @@ pub use batch::{lines_of_a_script, run_batch, run_batch_with};
 pub use cspf_client::{Client, ClientError, EndOfRequests, Reopens, Replies, ServedClient};
 pub use cspf_judge::{Audit, AuditError, AuditFault, audit};
 pub use cspf_publish::{MOST_ASKERS, MOST_TREE_MEGABYTES, TREE_MEGABYTES, trees_in};
-pub use cspf_questions::{AnswersExcept, AnswersNone, Kinds, QuestionKinds};
+pub use cspf_questions::{
+    AnswersBoth, AnswersExcept, AnswersNone, AnswersPairs, Kinds, QuestionKinds,
+};
 pub use cspf_solve::{
     RunOptions, SolveError, Solver, Summary, rows_have_one_reply, run_solve, run_solve_with,
     runs_go_on_row_by_row, stops_at_a_prefix,

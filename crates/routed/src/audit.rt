@@ -1,9 +1,9 @@
 //! `routed audit` checks a file of replies against a journal and a file of requests.
 
 use crate::devices::{Output, opened};
-use crate::options::{Asked, Call, CommandOption, CommandText, EXCEPT, JOURNAL, REPLIES, REQUESTS};
+use crate::options::{Asked, Call, CommandOption, CommandText, JOURNAL, REPLIES, REQUESTS};
 use crate::stopped::{Ran, ended};
-use cspf_serve::{run_audit, run_audit_with_questions};
+use cspf_serve::{AnswersNone, Kinds, run_audit, run_audit_with_questions};
 
 /// The command with its options.
 pub const COMMAND: CommandText = CommandText {
@@ -16,6 +16,7 @@ pub const COMMAND: CommandText = CommandText {
         CommandOption::Requests,
         CommandOption::Replies,
         CommandOption::Except,
+        CommandOption::Pairs,
         CommandOption::Explain,
     ],
 };
@@ -25,12 +26,12 @@ const HELP: &str = "\
 The journal and the requests are files as in batch, and each request has an id of its own. The replies
 are lines as batch and live write them. Lines that begin with version, applied or batch are
 skipped. Every other line has to be the reply to its request at the version that it names, byte for
-byte. With --except the requests may also have except rows, as in solve, and the replies have their
-lines. No two rows of the requests have one id, whatever their kinds.
+byte. With --except the requests may also have except rows, and with --pairs pair rows, as in solve,
+and the replies have their lines. No two rows of the requests have one id, whatever their kinds.
 
 Lines of standard output:
-  line L unread              line L doesn't begin as a reply does, with ask (with --except also with
-                             except), an id and a version
+  line L unread              line L doesn't begin as a reply does, with ask (with --except or --pairs
+                             also with except or pair), an id and a version
   line L foreign             no request has its id
   line L doubled             an earlier line has its id
   line L no-version          the journal has fewer batches than its version
@@ -42,11 +43,12 @@ or one of these alone:
   journal torn after N       rows follow the N whole batches of the journal
   batch N refused: ..        a batch of the journal doesn't fit
   request row N refused: ..  a row of the requests can't be read, is no ask row (nor, with --except,
-                             an except row), or has the id of an earlier one: same-id
+                             an except row, nor, with --pairs, a pair row), or has the id of an
+                             earlier one: same-id
   too many rows              a file has more than 1,000,000 rows or lines
 
 Each route is computed again: for an ask row by a plainer search than that of the other commands,
-for an except row as in solve.
+for an except row or a pair row as in solve.
 
 Names of files are UTF-8. Rows and lines may be of any length that fits in memory. Standard output must
 be in blocking mode. If it is a file that reaches the limit of its size (ulimit -f), the program ends by
@@ -66,10 +68,11 @@ pub(crate) fn judge(call: &Call<'_, '_>, out: &mut Output<'_>) -> Ran {
     let mut requests = opened(call, REQUESTS)?;
     let mut replies = opened(call, REPLIES)?;
     let alloc = call.rt.alloc();
-    let ran = if call.has(EXCEPT) {
-        run_audit_with_questions(alloc, &mut journal, &mut requests, &mut replies, out)
-    } else {
+    let kinds = call.kinds();
+    let ran = if kinds == AnswersNone::value() {
         run_audit(alloc, &mut journal, &mut requests, &mut replies, out)
+    } else {
+        run_audit_with_questions(alloc, kinds, &mut journal, &mut requests, &mut replies, out)
     };
     ended(
         ran,

@@ -5,6 +5,7 @@ use crate::refused_rows::explain_rows;
 use crate::standard_error::{say, say_at, say_of, stop};
 use crate::statuses::UNFIT;
 use crate::stopped::{Ran, Stopped};
+use cspf_questions::QuestionRunError;
 
 /// Returns the status of a run. With `--explain` it first writes why the run stopped, or which row
 /// of the run's files is refused. `options` are the command's options.
@@ -37,6 +38,7 @@ fn explain_stop(call: &Call<'_, '_>, why: Stopped) {
             None => say_of(rt, fault.device, &fault),
         },
         Stopped::Solve(error) => say(rt, &error),
+        Stopped::Undecided => say(rt, &QuestionRunError::Undecided),
         Stopped::Book(error) => say(rt, &error),
         Stopped::Stream(error) => say(rt, &error),
         Stopped::Run(error) => say(rt, &error),

@@ -59,16 +59,22 @@ fn after_space(text: &[u8]) -> &[u8] {
     &[]
 }
 
-/// The kind of a client's line, and the version of a reply.
+/// Whether a client's line answers a row.
+fn is_answer(line: &[u8]) -> bool {
+    line.starts_with(b"ask ") || line.starts_with(b"except ") || line.starts_with(b"pair ")
+}
+
+/// The kind of a client's line, and the version of a reply. A pair counts as a route. A circuit or a
+/// router that each way has counts as no route.
 pub(crate) fn line_of(line: &[u8]) -> (CountedLine, u64) {
-    if !line.starts_with(b"ask ") && !line.starts_with(b"except ") {
+    if !is_answer(line) {
         return (CountedLine::Refused, 0);
     }
     let version = after_space(after_space(line));
     let outcome = after_space(version);
-    let kind = if outcome.starts_with(b"route") {
+    let kind = if outcome.starts_with(b"route") || outcome.starts_with(b"pair") {
         CountedLine::Route
-    } else if outcome.starts_with(b"none") {
+    } else if outcome.starts_with(b"none") || outcome.starts_with(b"each") {
         CountedLine::NoRoute
     } else if outcome.starts_with(b"unknown-from") {
         CountedLine::UnknownFrom

@@ -3,6 +3,7 @@ ghost use Rattle.std.specs.Prelude.{◌<◌, ◌≤◌};
 ghost use Rattle.cspf_publish.specs.declared.limits.TheConstants.{MOST_ASKERS};
 
 use clap::{Arg, ArgAction, ArgMatches, Command, value_parser};
+use cspf_questions::QuestionKinds;
 use cspf_serve::{MOST_ASKERS, MOST_TREE_MEGABYTES, RunOptions, TREE_MEGABYTES, trees_in};
 use std::alloc::{AllocError, Global};
 use std::thread;
@@ -54,6 +55,9 @@ pub const FIGURES: &str = "figures";
 /// The flag with which `except` rows are answered, or their lines judged.
 pub const EXCEPT: &str = "except";
 
+/// The flag with which `pair` rows are answered.
+pub const PAIRS: &str = "pairs";
+
 /// An option of a command.
 #[derive(Clone, Copy)]
 pub enum CommandOption {
@@ -81,6 +85,8 @@ pub enum CommandOption {
     AtOnce,
     /// Whether `except` rows are answered, or their lines judged.
     Except,
+    /// Whether `pair` rows are answered.
+    Pairs,
     /// Whether the files of a client are opened again after a session.
     Reopen,
     /// The file of figures.
@@ -106,6 +112,7 @@ impl CommandOption {
             CommandOption::Trees => TREES,
             CommandOption::AtOnce => AT_ONCE,
             CommandOption::Except => EXCEPT,
+            CommandOption::Pairs => PAIRS,
             CommandOption::Reopen => REOPEN,
             CommandOption::Figures => FIGURES,
             CommandOption::AcceptTorn => ACCEPT_TORN,
@@ -134,6 +141,7 @@ impl CommandOption {
                 "How many rows that clients sent ahead are answered at once, 1 to 64; by default the processors"
             }
             CommandOption::Except => "Take except rows, too",
+            CommandOption::Pairs => "Take pair rows, too",
             CommandOption::Reopen => {
                 "When a client's rows end, open its files again, for another session"
             }
@@ -167,6 +175,7 @@ impl CommandOption {
             CommandOption::Trees => trees(arg),
             CommandOption::AtOnce => at_once(arg),
             CommandOption::Except
+            | CommandOption::Pairs
             | CommandOption::Reopen
             | CommandOption::AcceptTorn
             | CommandOption::Explain => { arg.action(ArgAction::SetTrue) }
@@ -288,6 +297,14 @@ impl<'m, 'a> Call<'m, 'a> {
                 Ok(processors) => processors.get(),
                 Err(_) => 1,
             },
+        }
+    }
+
+    /// Which kinds of questions are answered.
+    pub(crate) fn kinds(&self) -> QuestionKinds {
+        QuestionKinds {
+            except: self.has(EXCEPT),
+            pair: self.has(PAIRS),
         }
     }
 

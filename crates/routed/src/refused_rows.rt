@@ -1,8 +1,8 @@
 //! Finds the refused row of a file, for `--explain`. For this the file is read a second time.
 
-use crate::options::{ACCEPT_TORN, Call, CommandOption, EXCEPT, REQUESTS};
+use crate::options::{ACCEPT_TORN, Call, CommandOption, REQUESTS};
 use crate::standard_error::say_at;
-use cspf_questions::{QuestionError, QuestionKinds, ReadFields};
+use cspf_questions::{AnswersNone, Kinds, QuestionError, QuestionKinds, ReadFields};
 use cspf_rows::{MOST_ROWS, Row, RowError, open_records};
 use csv::{ByteRecord, Reader};
 use std::alloc::Global;
@@ -218,8 +218,10 @@ fn is_accepted(call: &Call<'_, '_>, option: &'static str) -> bool {
     let Some(file) = again(call.rt, path) else {
         return false;
     };
-    let kinds = QuestionKinds {
-        except: !is_journal && call.has(EXCEPT),
+    let kinds = if is_journal {
+        AnswersNone::value()
+    } else {
+        call.kinds()
     };
     match refused_row(call.rt.alloc(), file, Allowed { is_journal, kinds }) {
         Some(row) => {

@@ -9,15 +9,16 @@ use crate::devices::{INPUT, NewFile, OUTPUT, created, flushed, held_places};
 use crate::figures::Figures;
 use crate::noted::{Fault, Noted};
 use crate::options::{
-    Asked, CLIENT, Call, CommandOption, CommandText, EXCEPT, EXPLAIN, FIGURES, JOURNAL, REOPEN,
+    Asked, CLIENT, Call, CommandOption, CommandText, EXCEPT, EXPLAIN, FIGURES, JOURNAL, PAIRS,
+    REOPEN,
 };
 use crate::seats::{Closing, RunSeats, Saying, UpdatesRows};
 use crate::stack::grow_stack;
 use crate::standard_error::say_at;
 use crate::stopped::{Ran, Stopped};
 use cspf_serve::{
-    AnswersExcept, AnswersNone, ClientError, Kinds, MOST_ASKERS, Served, ServedClient,
-    ServedOptions, StreamError, run_serve_with_questions,
+    AnswersBoth, AnswersExcept, AnswersNone, AnswersPairs, ClientError, Kinds, MOST_ASKERS, Served,
+    ServedClient, ServedOptions, StreamError, run_serve_with_questions,
 };
 use std::sync::Wait;
 use std::sync::atomic::AtomicBool;
@@ -37,6 +38,7 @@ pub const COMMAND: CommandText = CommandText {
         CommandOption::Trees,
         CommandOption::AtOnce,
         CommandOption::Except,
+        CommandOption::Pairs,
         CommandOption::Reopen,
         CommandOption::Figures,
         CommandOption::Explain,
@@ -54,7 +56,7 @@ has read version V on standard output, every request that it sends after that is
 later, by any client. No client waits for a batch. A client that sends each row after it has read the
 line of the row before waits for no other client. Of the rows that clients send ahead, at most N
 (--at-once) are answered at once, and these clients take turns. So they don't hold up the batches.
-With --except clients may also send except rows, as in solve.
+With --except clients may also send except rows, and with --pairs pair rows, as in solve.
 
 Lines of standard output, as in solve, and of a client's OUT:
   version V                  a batch is in effect
@@ -111,10 +113,11 @@ pub(crate) fn answer<T: Threads + Wait + Sync>(call: &Call<'_, '_>, handle: &T) 
         return Err(Stopped::Memory);
     }
     let _held = held_places(call.rt);
-    if call.has(EXCEPT) {
-        serve::<T, AnswersExcept>(call, handle, words)
-    } else {
-        serve::<T, AnswersNone>(call, handle, words)
+    match (call.has(EXCEPT), call.has(PAIRS)) {
+        (false, false) => serve::<T, AnswersNone>(call, handle, words),
+        (true, false) => serve::<T, AnswersExcept>(call, handle, words),
+        (false, true) => serve::<T, AnswersPairs>(call, handle, words),
+        (true, true) => serve::<T, AnswersBoth>(call, handle, words),
     }
 }
 

@@ -2,10 +2,9 @@
 
 use crate::devices::{INPUT, OUTPUT, flushed};
 use crate::noted::Noted;
-use crate::options::{Asked, Call, CommandOption, CommandText, EXCEPT};
+use crate::options::{Asked, Call, CommandOption, CommandText};
 use crate::stopped::{Ran, Stopped};
-use cspf_question_run::run_questions;
-use cspf_questions::QuestionKinds;
+use cspf_questions::{AnswersNone, Kinds, run_questions};
 use cspf_serve::run_solve_with;
 use std::io;
 
@@ -18,6 +17,7 @@ pub const COMMAND: CommandText = CommandText {
     options: &[
         CommandOption::Trees,
         CommandOption::Except,
+        CommandOption::Pairs,
         CommandOption::Explain,
     ],
 };
@@ -40,11 +40,16 @@ Rows of standard input, fields separated by commas:
   except,id,from,to,setup,bandwidth,exclude_any,include_any,include_all,hops,except
       with --except: the same, without the links that its last field names by prefixes with a letter:
       10.0.12.0/31i by the addresses of interfaces, 2.2.2.2/32r by a router
+  pair,id,from,to,setup,bandwidth,exclude_any,include_any,include_all,kind
+      with --pairs: asks for the two ways of least total cost that share no circuit (kind circuits),
+      or no circuit and no router but the ends (kind routers)
 
 Lines of standard output, each as soon as it is known:
   version V                  a batch is accepted
   ask ID vV route ..         a request is answered at version V; also none, unknown-from, unknown-to
   except ID vV route ..      the same for an except row
+  pair ID vV pair ..         the same for a pair row; also each by ROUTER,LOCAL, the link that each way
+                             has, and each through ROUTER, the router that each way passes
   row N refused: ..          and batch N refused: .., unended K, too many rows
 
 Rows may be of any length that fits in memory. Standard output must be in blocking mode. If its reader
@@ -74,14 +79,20 @@ pub(crate) fn answer(call: &Call<'_, '_>) -> Ran {
     let mut reader = Noted::new(INPUT, rt.reader());
     let mut out = Noted::new(OUTPUT, io::writer(rt));
     let options = call.run_options();
-    let ran = if call.has(EXCEPT) {
-        let kinds = QuestionKinds { except: true };
-        run_questions(rt.alloc(), &mut reader, &mut out, options, kinds)
+    let kinds = call.kinds();
+    let ran = if kinds == AnswersNone::value() {
+        match run_solve_with(rt.alloc(), &mut reader, &mut out, options) {
+            Ok(summary) => Ok(summary),
+            Err(error) => Err(Stopped::Solve(error)),
+        }
     } else {
-        run_solve_with(rt.alloc(), &mut reader, &mut out, options)
+        match run_questions(rt.alloc(), &mut reader, &mut out, options, kinds) {
+            Ok(summary) => Ok(summary),
+            Err(error) => Err(Stopped::from(error)),
+        }
     };
     match ran {
         Ok(summary) => flushed(&mut out, Ok(summary.status())),
-        Err(error) => Err(Stopped::Solve(error).by(reader.fault(), out.fault())),
+        Err(stopped) => Err(stopped.by(reader.fault(), out.fault())),
     }
 }

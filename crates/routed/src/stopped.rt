@@ -2,6 +2,7 @@
 
 use crate::noted::Fault;
 use cspf_book_run::BookError;
+use cspf_questions::QuestionRunError;
 use cspf_serve::{RunError, ServedError, SolveError, StreamError};
 use std::alloc::AllocError;
 use std::io;
@@ -15,6 +16,8 @@ pub enum Stopped {
     Device(Fault),
     /// An error of `solve`, or an error of `book` that `solve` also has.
     Solve(SolveError),
+    /// The answer to a request for a pair isn't proved by what the search found.
+    Undecided,
     /// Another error of `book`.
     Book(BookError),
     /// An error of `serve` in reading the updates, or in writing the lines that answer them.
@@ -65,6 +68,15 @@ pub(crate) fn ended(ran: Result<u8, RunError>, read: Option<Fault>) -> Ran {
     match ran {
         Ok(status) => Ok(status),
         Err(error) => Err(Stopped::Run(error).by(read, None)),
+    }
+}
+
+impl From<QuestionRunError> for Stopped {
+    fn from(error: QuestionRunError) -> Stopped {
+        match error {
+            QuestionRunError::Solve(error) => Stopped::Solve(error),
+            QuestionRunError::Undecided => Stopped::Undecided,
+        }
     }
 }
 

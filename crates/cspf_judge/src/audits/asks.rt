@@ -1,8 +1,8 @@
 //! Rows that ask, and the lines that answer them, as an audit sees both.
 
 ghost use Rattle.std.specs.Prelude.{IsTrue, ◌↔◌, ◌≡◌, IfOk, IfSome, IfNone, OnOk};
-ghost use Rattle.cspf_judge.specs.Asks.{AskSpec, HasOneBeginning};
-ghost use Rattle.cspf_judge.specs.Findings.{HasNoBeginning, IsNeverSkipped};
+ghost use Rattle.cspf_judge.specs.Asks.{AskSpec, HasOneBeginning, IsJudged};
+ghost use Rattle.cspf_judge.specs.Findings.{HasNoBeginning, IsNeverSkipped, IsRightReply};
 
 use crate::audits::comparing::is_line;
 use cspf_db::Table;
@@ -36,14 +36,33 @@ pub(crate) trait Asks {
         version: u32,
         line: &[u8],
     ) -> Result<bool, AllocError>
-        ensures { IfOk result (λ right. IsTrue right
-            ↔ spec.answers table.now self.now version line.now) };
+        ensures { IfOk result (IsJudged spec table.now self.now version line.now) };
 
     /// Law: a line begins with at most one id and version.
     ghost one_head: { HasOneBeginning spec };
 
     /// Law: a line that the audit skips doesn't begin as an answer.
     ghost none_skipped: { IsNeverSkipped spec };
+}
+
+/// Whether a line is the right reply to a request at a version. The table has the database of that
+/// version.
+fn is_right_reply(
+    alloc: Global,
+    table: &Table,
+    request: &Request,
+    version: u32,
+    line: &[u8],
+) -> Result<bool, AllocError>
+    ensures { IfOk result (λ right. IsTrue right
+        ↔ IsRightReply table.now request.now version line.now) }
+{
+    // Laws: a request has only one best answer in a database, and an answer has only one reply line.
+    one_best_answer();
+    one_reply_line();
+    let outcome = best_by_rounds(alloc, table, request)?;
+    let reply = reply_line(alloc, request.id, version, &outcome)?;
+    Ok(is_line(line, &reply))
 }
 
 /// `ask` rows. The right answer is computed by a plainer search than that of the other commands.
@@ -69,13 +88,7 @@ impl Asks for Request {
         version: u32,
         line: &[u8],
     ) -> Result<bool, AllocError> {
-        // Laws: a request has only one best answer in a database, and an answer has only one reply
-        // line.
-        one_best_answer();
-        one_reply_line();
-        let outcome = best_by_rounds(alloc, table, self)?;
-        let reply = reply_line(alloc, self.id, version, &outcome)?;
-        Ok(is_line(line, &reply))
+        is_right_reply(alloc, table, self, version, line)
     }
 
     ghost one_head = { one_head_of_line };

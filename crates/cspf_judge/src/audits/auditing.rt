@@ -52,23 +52,24 @@ pub fn audit<R: Read + Drop, Q: Read + Drop, P: Read + Drop>(
     Ok(audit_lines(alloc, &batches, &plans, &requests, &ids, &lines)?)
 }
 
-/// Audits replies to rows that ask, `ask` rows and the rows of questions of every kind. It does the
+/// Audits replies to rows that ask, `ask` rows and the rows of questions of these kinds. It does the
 /// same as `audit`. A line has to be the right answer to the row that has its id, and rows of all kinds
 /// have distinct ids. For the row of a question this is the line that answers it.
 pub fn audit_with_questions<R: Read + Drop, Q: Read + Drop, P: Read + Drop>(
     alloc: Global,
+    kinds: QuestionKinds,
     journal: R,
     requests: Q,
     replies: P,
 ) -> Result<Audit, QuestionAuditError>
     ensures whole { IfOk result (λ audit. IfSome (R.remaining journal) (λ kept.
         IfSome (Q.remaining requests) (λ asked. IfSome (P.remaining replies) (λ said.
-        IsQuestionAuditOf (rows_of kept) (rows_of asked) said audit)))) }
-    ensures err { IfErr result (IsQuestionAuditError
+        IsQuestionAuditOf kinds (rows_of kept) (rows_of asked) said audit)))) }
+    ensures err { IfErr result (IsQuestionAuditError kinds
         (R.remaining journal) (Q.remaining requests) (P.remaining replies)) }
 {
     let LawfulJournal { batches, plans } = lawful_journal(alloc, journal)?;
-    let rows = read_asked(alloc, QuestionKinds { except: true }, requests)?;
+    let rows = read_asked(alloc, kinds, requests)?;
     let ids = index_ids(alloc, &rows)?;
     let said = read_lines(alloc, replies)?;
     Ok(audit_lines(alloc, &batches, &plans, &rows, &ids, &said)?)

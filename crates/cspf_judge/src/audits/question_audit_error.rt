@@ -6,7 +6,7 @@ ghost use Rattle.cspf_judge.specs.declared.audits.audit_error.AuditError.TheVari
 ghost use Rattle.cspf_judge.specs.declared.audits.question_audit_error.QuestionAuditError.TheVariants as question_audit_error;
 
 use crate::AuditError;
-use cspf_questions::{AskedError, ExceptFault, QuestionError};
+use cspf_questions::{AskedError, QuestionError};
 use std::alloc::AllocError;
 use std::error::Error;
 use std::fmt;
@@ -16,12 +16,12 @@ use std::fmt;
 pub enum QuestionAuditError {
     /// The reason is one for which streams with `ask` rows alone aren't audited, either.
     Audit(AuditError),
-    /// The row of a question has no exclusions that can be read.
-    Except {
+    /// The row of a question is refused.
+    Question {
         /// The number of the row of the requests, counted from 1.
         row: u32,
-        /// Why its field spells none.
-        fault: ExceptFault,
+        /// Why the row is refused.
+        error: QuestionError,
     },
 }
 
@@ -29,11 +29,9 @@ impl fmt::Display for QuestionAuditError {
     fn fmt<W: fmt::Write>(&self, f: &mut fmt::Formatter<W>) -> fmt::Result {
         match self {
             QuestionAuditError::Audit(why) => write!(f, "{why}"),
-            QuestionAuditError::Except { row, fault } => write!(
-                f,
-                "row {row} of the requests: {}",
-                QuestionError::Except(*fault)
-            ),
+            QuestionAuditError::Question { row, error } => {
+                write!(f, "row {row} of the requests: {error}")
+            }
         }
     }
 }
@@ -54,7 +52,7 @@ impl From<AskedError> for QuestionAuditError {
     fn from(why: AskedError) -> QuestionAuditError {
         match why {
             AskedError::Requests(why) => QuestionAuditError::Audit(AuditError::from(why)),
-            AskedError::Except { row, fault } => QuestionAuditError::Except { row, fault },
+            AskedError::Question { row, error } => QuestionAuditError::Question { row, error },
         }
     }
 }

@@ -471,7 +471,7 @@ pub fn run_serve<
     options: ServedOptions,
 ) -> Result<Served<W, J, V>, (ServedError, W, J, Vec<Client<Q, V>>)>
     requires { (0 < vec_len clients) × (vec_len clients ≤ MOST_ASKERS) }
-    ensures served { IfOk result (IsServedRun (record { except = false }) (R.remaining updates) W.contents J.contents
+    ensures served { IfOk result (IsServedRun (record { except = false; pair = false }) (R.remaining updates) W.contents J.contents
         Q.remaining V.contents V.reopens said journal clients.items) }
     ensures error { IfErr result (λ e. IsServedFault (vec_len clients) e.0) }
     ensures back { IfErr result (λ e. (e.1 ≡ said) × (e.2 ≡ journal) × (e.3 ≡ clients)) }

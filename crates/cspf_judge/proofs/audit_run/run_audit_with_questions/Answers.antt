@@ -7,12 +7,12 @@ use Rattle.cspf_judge.proofs.audit_run.run_audit_with_questions.Goals as goal
 
 pub returns-in-Ok-clause-whole : goal.returns-in-Ok-clause-whole
 returns-in-Ok-clause-whole g c =
-    audited IsQuestionAuditOf IsQuestionAuditErrorLine IsQuestionAuditError (g.W.Write.contents c.args.writer.now) (g.W.Write.contents c.write_audit.new.writer) (g.R.Read.remaining c.args.journal) (g.Q.Read.remaining c.args.requests) (g.P.Read.remaining c.args.replies)
+    audited (IsQuestionAuditOf c.args.kinds) IsQuestionAuditErrorLine (IsQuestionAuditError c.args.kinds) (g.W.Write.contents c.args.writer.now) (g.W.Write.contents c.write_audit.new.writer) (g.R.Read.remaining c.args.journal) (g.Q.Read.remaining c.args.requests) (g.P.Read.remaining c.args.replies)
     c.write_audit.result c.in-Ok.found c.write_audit.ensures.status c.write_audit.ensures.lines c.in-Ok.ensures.whole
 
 pub returns-in-Err-clause-whole : goal.returns-in-Err-clause-whole
 returns-in-Err-clause-whole g c =
-    unaudited IsQuestionAuditOf IsQuestionAuditErrorLine IsQuestionAuditError (g.W.Write.contents c.args.writer.now) (g.W.Write.contents c.refuse.new.writer) (g.R.Read.remaining c.args.journal) (g.Q.Read.remaining c.args.requests) (g.P.Read.remaining c.args.replies)
+    unaudited (IsQuestionAuditOf c.args.kinds) IsQuestionAuditErrorLine (IsQuestionAuditError c.args.kinds) (g.W.Write.contents c.args.writer.now) (g.W.Write.contents c.refuse.new.writer) (g.R.Read.remaining c.args.journal) (g.Q.Read.remaining c.args.requests) (g.P.Read.remaining c.args.replies)
     c.refuse.result c.question_audit_end_of.result c.in-Err.error c.question_audit_end_of.ensures.refused c.in-Err.ensures.err c.refuse.ensures.status c.refuse.ensures.line
 
 pub returns-in-Ok-clause-stopped : goal.returns-in-Ok-clause-stopped
@@ -22,5 +22,5 @@ returns-in-Ok-clause-stopped g c =
 
 pub returns-in-Err-clause-stopped : goal.returns-in-Err-clause-stopped
 returns-in-Err-clause-stopped g c =
-    unaudited_begun IsQuestionAuditOf IsQuestionAuditErrorLine IsQuestionAuditError (g.W.Write.contents c.args.writer.now) (g.W.Write.contents c.refuse.new.writer) (g.R.Read.remaining c.args.journal) (g.Q.Read.remaining c.args.requests) (g.P.Read.remaining c.args.replies)
+    unaudited_begun (IsQuestionAuditOf c.args.kinds) IsQuestionAuditErrorLine (IsQuestionAuditError c.args.kinds) (g.W.Write.contents c.args.writer.now) (g.W.Write.contents c.refuse.new.writer) (g.R.Read.remaining c.args.journal) (g.Q.Read.remaining c.args.requests) (g.P.Read.remaining c.args.replies)
     c.refuse.result c.question_audit_end_of.result c.in-Err.error c.question_audit_end_of.ensures.refused c.in-Err.ensures.err c.refuse.ensures.begun

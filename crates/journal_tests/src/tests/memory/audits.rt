@@ -3,6 +3,7 @@
 
 use crate::tests::assert_case;
 use cspf_judge::{AuditError, AuditFault, QuestionAuditError, audit, audit_with_questions};
+use cspf_questions::{AnswersExcept, Kinds};
 use std::alloc::Global;
 use std::test::Fail;
 
@@ -62,7 +63,7 @@ route cost=10 hops=1 again=no ero=000c140101080a000c022000\n";
 
 /// Whether the audit finds that both replies are good.
 fn both_are_good(alloc: Global) -> Result<bool, QuestionAuditError> {
-    let found = audit_with_questions(alloc, JOURNAL, ASKED, ANSWERS)?;
+    let found = audit_with_questions(alloc, AnswersExcept::value(), JOURNAL, ASKED, ANSWERS)?;
     Ok(found.good == 2 && found.faults.is_empty())
 }
 

@@ -1,9 +1,11 @@
-use Rattle.std.proofs.Common.{ap, subst}
+use Rattle.std.proofs.Common.{ap, subst, sym}
 use Rattle.std.proofs.lemmas.Result.{IfOk-weaker, IfErr-weaker}
 use Rattle.cspf_publish.specs.AskerStates.{known_of}
-use Rattle.cspf_client.specs.ClientRows.{IsQuestionAnswered, IsRequestUnanswered}
+use Rattle.cspf_client.specs.ClientRows.{IsQuestionAnswered, IsQuestionUnanswered, IsRequestUnanswered}
 use Rattle.cspf_client.specs.SessionStates.{SessionState}
-use Rattle.cspf_client.proofs.Requests.{session, question_answered, memory_refused, unanswered}
+use Rattle.cspf_client.specs.ErrorNames.{fault_of_answer}
+use Rattle.cspf_client.specs.declared.error.RowFault.{RowFault}
+use Rattle.cspf_client.proofs.Requests.{session, question_answered, question_unanswered, unanswered}
 use Rattle.cspf_client.proofs.session.Session.question.Goals as goal
 
 pub returns-clause-answered : goal.returns-clause-answered
@@ -19,9 +21,10 @@ pub returns-clause-failed : goal.returns-clause-failed
 returns-clause-failed c =
     let after = session c.self.inside.client (known_of c.table.new.self) c.catch_up-read.new.steps c.self.inside.refused in
     IfErr-weaker c.question_line.result _ _
-    (λ why is. subst (λ (s : SessionState). IsRequestUnanswered c.args.place why s after) c.self.view_is
-    (memory_refused c.self.inside.client c.args.place (known_of c.self.inside.asker) (known_of c.catch_up-read.new.self) (known_of c.table.new.self) c.self.inside.steps c.catch_up-read.new.steps c.catch_up-read.result c.self.inside.refused c.catch_up-read.ensures.caught_up c.table.ensures.source c.table.ensures.later why is))
-    c.question_line.ensures.memory
+    (λ fault is. subst (λ (f : RowFault). IsQuestionUnanswered c.args.place c.args.question.now f c.args.self.now after) (sym is.2)
+    (subst (λ (s : SessionState). IsQuestionUnanswered c.args.place c.args.question.now (fault_of_answer is.0) s after) c.self.view_is
+    (question_unanswered c.self.inside.client c.args.place (known_of c.self.inside.asker) (known_of c.catch_up-read.new.self) (known_of c.table.new.self) c.self.inside.steps c.catch_up-read.new.steps c.catch_up-read.result c.self.inside.refused c.catch_up-read.ensures.caught_up c.table.ensures.source c.table.ensures.later c.args.question.now is.0 is.1)))
+    c.question_line.ensures.fault
 
 pub returns-in-Err-clause-failed : goal.returns-in-Err-clause-failed
 returns-in-Err-clause-failed c =

@@ -1,6 +1,7 @@
-use Rattle.std.proofs.Common.{◌≡◌, ◌↔◌, IsTrue, true, false, ◌∙◌, ◌+◌, length, drop, get_or, take, sym, ap, subst, rules, arith}
+use Rattle.std.proofs.Common.{◌≡◌, ◌∙◌, ◌+◌, length, drop, get_or, take, sym, ap, subst, rules, arith}
 use Rattle.std.proofs.lemmas.List.{drop_more, drop_all}
 use Rattle.cspf_model.specs.Changes.{database_after}
+use Rattle.cspf_judge.specs.Asks.{IsJudged}
 use Rattle.cspf_judge.specs.Reading.{AreOpenFindings}
 use Rattle.cspf_judge.specs.declared.audits.claim.Claim.{Claim}
 use Rattle.cspf_judge.proofs.ComparingSteps.{claim_at, claim_within, asked_of_claim, right_step, altered_step, all_settled}
@@ -41,16 +42,17 @@ loop-claim-preserved g c =
     let front = subst (λ cs. AreOpenFindings g.A.Asks.spec c.args.batches.now c.args.requests.now c.args.lines.now cs c.loop-claim.findings) (drop_more claims i none c.loop-claim-test.true) c.loop-claim.invariant.open_ones in
     let right = c.in_ok-is_answer.field-0 in
     let here = c.table.ensures ∙ c.in_ok-go_to.ensures.here.table ∙ ap (λ v. database_after (take v c.args.batches.now)) c.in_ok-go_to.ensures.version in
-    let test = subst (λ l. IsTrue right ↔ g.A.Asks.spec.answers c.table.result.now c.index-requests-claim.result claim.version l) c.text-line.ensures c.in_ok-is_answer.ensures in
+    let test = subst (λ l. IsJudged g.A.Asks.spec c.table.result.now c.index-requests-claim.result claim.version l right) c.text-line.ensures c.in_ok-is_answer.ensures in
     let asked = asked_of_claim g.A.Asks.spec c.args.batches.now c.args.requests.now c.args.lines.now claim rest c.loop-claim.findings front is c.table.result.now c.index-requests-claim.result c.index-lines-claim.result right here
     within.0 c.index-requests-claim.is within.1 c.index-lines-claim.is test in
+    let judged = IsJudged g.A.Asks.spec (database_after (take claim.version c.args.batches.now)) is.q claim.version is.line in
     record {
       here = c.in_ok-go_to.ensures.here;
       open_ones = elim c.if-not-branch.branch [
         | then-not-branch w ↦ subst (AreOpenFindings g.A.Asks.spec c.args.batches.now c.args.requests.now c.args.lines.now rest) (sym w.findings-is)
-            (altered_step g.A.Asks.spec c.args.batches.now c.args.requests.now c.args.lines.now claim rest c.loop-claim.findings front is (λ reply. let no : true ≡ false = sym (asked.1 reply) ∙ w.if-not-branch.true in cc))
+            (altered_step g.A.Asks.spec c.args.batches.now c.args.requests.now c.args.lines.now claim rest c.loop-claim.findings front is (subst judged w.if-not-branch.true asked))
         | else-not-branch w ↦ subst (AreOpenFindings g.A.Asks.spec c.args.batches.now c.args.requests.now c.args.lines.now rest) (sym w.findings-is)
-            (right_step g.A.Asks.spec c.args.batches.now c.args.requests.now c.args.lines.now claim rest c.loop-claim.findings front is (asked.0 w.if-not-branch.false))
+            (right_step g.A.Asks.spec c.args.batches.now c.args.requests.now c.args.lines.now claim rest c.loop-claim.findings front is (subst judged w.if-not-branch.false asked))
       ];
     }
 

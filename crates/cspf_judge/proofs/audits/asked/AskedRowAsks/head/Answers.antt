@@ -1,4 +1,4 @@
-use Rattle.cspf_judge.proofs.ExceptHeads.{neither}
+use Rattle.cspf_judge.proofs.QuestionHeads.{neither}
 use Rattle.cspf_judge.proofs.audits.asked.AskedRowAsks.head.Goals as goal
 
 pub returns-in-None-clause-none : goal.returns-in-None-clause-none

@@ -1,2 +1,0 @@
--- The lemmas on runs that also answer questions.
-pub mod QuestionRuns
