@@ -19,6 +19,7 @@ from reference import formats
 from routed.pcep import wire
 from routed.pcep.wire import pack
 
+OPTIONS = {"ask": [], "except": ["--except"], "pair": ["--pairs"]}  # of an audit, by the word of the rows
 DRAWN, VERSIONS = 300, 40  # requests, and versions that there are meanwhile, at least
 EACH = [  # of an XRO: its name, its subobjects, and the answer
     ("an interface", [prefix("10.1.2.2")], BY_SOUTH), ("a prefix", [prefix("10.1.2.0", 23)], BY_DIRECT),
@@ -92,8 +93,8 @@ def excluding(program, checks, room):
         checks.same("a server without --except: an LSP", client.read(), f"{TO_SOUTH} returned")
 
 
-def judged(program, checks, run):
-    """The kept rows and lines: the reference answers each at its version, and so does an audit."""
+def judged(program, checks, run, words=("ask", "except")):
+    """The kept rows of these words, and their lines: the reference answers each at its version, and so does an audit."""
     with open(run.places["journal"], encoding="ascii") as file:
         journal = file.read()
     networks, rows_ = [formats.Network()], []
@@ -103,14 +104,15 @@ def judged(program, checks, run):
             rows_ = []
         else:
             rows_.append(text)
-    for front in ("", "except_"):
+    for word in words:
+        front = "" if word == "ask" else f"{word}_"
         asked, lines = (run.kept(1, f"{front}{kind}") for kind in ("requests", "replies"))
         pairs = [*zip(asked.splitlines(), lines.splitlines())]
         faults = [(row, text) for row, text in pairs if reply(networks[version_of(text)], version_of(text), row) != text]
         checks.same(f"each line of {front}replies is the reference's", faults[:2], [])
         checks.same(f"{front}replies has a line for each row, of one kind", ({row.split(",")[0] for row, _ in pairs}, asked.count("\n")),
-                    ({front.rstrip("_") or "ask"}, lines.count("\n")))
-        status, out, _ = program.audit(journal, asked, lines, *(["--except"] if front else []))
+                    ({word}, lines.count("\n")))
+        status, out, _ = program.audit(journal, asked, lines, *OPTIONS[word])
         checks.true(f"the audit of {front}replies", status == 0 and f"good={len(pairs)} faults=0".encode() in out, (status, out[-200:]))
     return networks
 

@@ -11,6 +11,7 @@ import time
 
 from pcep.beside import Client, Run, addresses, begun, wait
 from pcep.excluded import SOFT, prefix, router, srlg, xro
+from pcep.paired import NODE, objective, svec, two
 from pcep.played import NORTH, SOUTH, bandwidth, hop, ip, lspa, metric, report, request, rows
 from pcep.shared_risks import line, shared
 from program.serving import PATIENCE, has_come
@@ -39,7 +40,8 @@ def whole():
         request(lspa(), bandwidth(1), metric(2, 500), pack(10, hop(3), must=True), pack(99, bytes(40))),
         request(xro(prefix("10.1.2.1"), router(3, **SOFT), shared("10.1.3.1/30"), srlg(7), srlg(8, **SOFT)), xro(srlg(9), must=False)),
         request(pack(8, hop(2)), bandwidth(0, 2), rp=8), request(pack(32, struct.pack("!I", 1 << 12 | 9) + ids, must=True)),
-        wire.message(3, pack(11, bytes(12)), request()[4:] * 3),
+        wire.message(3, pack(11, bytes(12)), request()[4:] * 3), two(front=[svec(7, 8), objective(6)]),
+        two(lspa(any_=1), front=[svec(8, 7, flags=NODE, must=False)]),
         wire.message(10, *report(1, ero=addresses(NORTH)), *report(2, ero=addresses(SOUTH), name=b"red")),
         wire.message(10, *report(5, ero=addresses(NORTH), name=b"grey", more=[xro(prefix("10.1.2.1", **SOFT), router(2), srlg(7))])),
         wire.message(10, *report(3, ero=by_labels, name=b"green", setup_type=1, srp=1)), wire.message(10, *report(0, 0)),
@@ -185,7 +187,7 @@ def mutations(program, checks, room):
     srlgs = os.path.join(room, "srlgs")
     with open(srlgs, "w", encoding="ascii") as file:
         file.writelines(f"{line(*link, *groups, version=0)}\n" for link, groups in (((1, 2), (7, 8)), ((1, 3), (9,))))
-    with Run(program.path, room, "--srlgs", srlgs, listen=["--except"]) as run:
+    with Run(program.path, room, "--srlgs", srlgs, listen=["--except", "--pairs"]) as run:
         run.publish(*rows())
         beside, attackers = Beside(run, "127.0.60.1"), [Attacker(run, draw, number) for number in range(ATTACKERS)]
         before = taken(run)

@@ -6,7 +6,7 @@ import os
 import socket
 import struct
 
-from reference import excepts
+from reference import excepts, pairs
 from reference.formats import Network
 
 from routed.model.rows import row_of
@@ -38,10 +38,14 @@ def fars(*pairs):
 NORTH, SOUTH = fars((1, 2), (2, 4)), fars((1, 3), (3, 4))
 
 
+QUESTIONS = {"except": excepts, "pair": pairs}  # by the first word of a row
+
+
 def reply(network, version, row):
-    """The reply line to an `ask` row or an `except` row, by the reference."""
+    """The line to an `ask` row, an `except` row or a `pair` row, by the reference."""
     fields = row.split(",")
-    return excepts.answer(network, version, excepts.question(fields)) if fields[0] == "except" else network.reply(version, row)
+    asked = QUESTIONS.get(fields[0])
+    return asked.answer(network, version, asked.question(fields)) if asked else network.reply(version, row)
 
 
 class Front:

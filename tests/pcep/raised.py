@@ -5,8 +5,10 @@ import socket
 import struct
 import types
 
-from pcep.played import NORTH, PATH, SOUTH, Front, report, request, rows, told
+from pcep.paired import svec, two
+from pcep.played import NORTH, PATH, SOUTH, Front, metric, reply, report, request, rows, told
 
+from routed.model.rows import row_of
 from routed.net.loop import Loop
 from routed.net.stream import Stream
 from routed.pcep import wire
@@ -41,7 +43,7 @@ class Whole(Front):
         self.made = {"red": request_of(["10.0.0.1", "10.0.0.4", "7", "1", "0x0", "0x0", "0x0"])}
 
     def ask(self, row, call, owner=None):
-        self.loop.call(owner, call, self.reference.reply(self.version, f"ask,1,{row}"))
+        self.loop.call(owner, call, reply(self.reference, self.version, row_of(1, row)))
 
     def in_turn(self, asking):
         self.slices.add(asking)
@@ -91,7 +93,7 @@ def played(front, victim):
     north = wire.addresses_ero(NORTH)[4:]
     opened = wire.message(1, pack(1, bytes([0x20, 30, 120, 9]) + tlv(16, struct.pack("!I", 5))))
     victim.say(opened, wire.message(6, pack(13, bytes([0, 0, 1, 4])), pack(1, bytes([0x20, 20, 80, 9]))))
-    victim.say(wire.message(2), request(), request(ends=b""), wire.message(99))
+    victim.say(wire.message(2), request(), request(ends=b""), two(), two(metric(2, 900), front=[svec(7, 8, must=False)]), wire.message(99))
     victim.say(*(wire.message(10, *one) for one in (report(1), report(2, ero=north, name=b"green"), report(0, 0))))
     front.publish("drop,10.0.0.1,10.1.2.1")
     each(lambda pcc: pcc.session.again())

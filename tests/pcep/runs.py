@@ -13,6 +13,7 @@ from pcep.beside import OPENED, SILENT, TO_NORTH, TO_SOUTH, Client, Run, begun, 
 from pcep.excluding import drawn_risks, excluding, fed
 from pcep.lsps import figures, names_of_pccs, shared, wanted_again
 from pcep.named import named
+from pcep.pairing import drawn_ways, pairing
 from pcep.played import PATH, SOUTH, request, rows
 from program.serving import PATIENCE
 from reference import formats
@@ -267,4 +268,5 @@ def rolled(program, checks, room):
 def pcep_runs(program, checks):
     with tempfile.TemporaryDirectory() as room:
         checks.parts_in(room, (sockets, keys, gone, full, busy, crowded, stateless, idle, shared, wanted_again, figures,
-                               names_of_pccs, rolled, long, drawn, named, excluding, drawn_risks, fed, storm), program, checks)
+                               names_of_pccs, rolled, long, drawn, named, excluding, drawn_risks, fed, pairing, drawn_ways, storm),
+                        program, checks)

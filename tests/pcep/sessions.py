@@ -14,6 +14,7 @@ from pcep.delegated import delegated, followed, races
 from pcep.excluded import EXCLUDED, prefix, srlg, xro
 from pcep.initiated import initiated, looked_at, making, segments, updated
 from pcep.opening import SESSIONS
+from pcep.paired import PAIRED, objective, svec, two
 from pcep.played import FREE, PATH, SOUTH, Front, Pcc, bandwidth, fars, hop, ip, lspa, metric, request, rows, told, told_one
 from pcep.raised import raised
 from pcep.refusing import downs, other_words, refusals, silences
@@ -151,7 +152,8 @@ def malformed(checks, room):
     whole = [request(lspa(), bandwidth(1), metric(2, 500), pack(10, hop(3), must=True)),
              wire.message(10, pack(33, struct.pack("!II", 0, 1)),
                           pack(32, struct.pack("!I", 1 << 12 | 9) + tlv(17, b"a") + tlv(18, ip(1) + bytes(8) + ip(4))), pack(7, hop(2))),
-             wire.error(4, 4), wire.close(1), request(xro(prefix("10.1.2.1"), prefix("10.1.3.0", 24, 1, True), srlg(7, True)))]
+             wire.error(4, 4), wire.close(1), request(xro(prefix("10.1.2.1"), prefix("10.1.3.0", 24, 1, True), srlg(7, True))),
+             two(front=[svec(7, 8), objective(6)])]
     count = 0
     for data in whole:
         for at in range(4, len(data)):
@@ -257,6 +259,8 @@ TABLE = {
     "subobjects of an XRO with exclusion bit 1": ["should be excluded: {name}", "should be excluded: {name}: asks", "drawn XROs"],
     "SRLG subobjects of an XRO, and IPv4 prefixes with attribute 2 (SRLG), with `--srlgs`": [
         "SRLGs of {name}", "SRLGs of {name}: one row", "no answer has a link of a named SRLG"],
+    "SVEC of two requests with the flag L (link diverse) or N (node diverse); OF 6 behind the SVEC": [
+        "a pair by {kind}: {name}", "a pair by {kind}: {name}: its rows", "a pair by both flags", "no pair: {name}", "drawn pairs"],
     "METRIC of type TE, as a bound": ["a TE bound that is kept", "a TE bound that isn't"],
     "METRIC of type SID depth (11), as a bound": ["a request of at most {most} SIDs"],
     "METRIC of type TE, to be optimized; OF 1": ["a TE metric to be optimized", "the objective MCP"],
@@ -264,7 +268,10 @@ TABLE = {
         "a reoptimization", "a reoptimization of an LSP of bandwidth 0"],
     "LSP in a request": ["an LSP object"],
     "reply `route`": ["no constraint", "SIDs", "a route of 8,183 links"],
-    "reply `none`": ["bandwidth that isn't", "affinities that exclude"],
+    "line `pair` with two ways": ["two ways", "drawn pairs", "a pair by SIDs", "a pair of which one way has a link without a SID",
+                                 "a pair of which one way has more SIDs than the PCC takes"],
+    "reply `none`; of a pair also `each by` and `each through`": [
+        "bandwidth that isn't", "affinities that exclude", "a router that all ways pass", "a circuit that all ways have", "no way at all"],
     "`unknown-from`, `unknown-to`": ["an unknown source", "an unknown destination"],
     "no connection to the server, a link of the route has no SID, or the SIDs or the journal aren't those of the server's run": [
         "mapping: no server", "without a server", "a link without a SID is no lack of a path", "a SID that is gone",
@@ -278,8 +285,9 @@ TABLE = {
         "the objective MBP without P", "an IRO of 8", "an IRO of 8 without P", "an IRO of an AS"],
     "IPv6 or P2MP END-POINTS, the bandwidth of the existing LSP (BANDWIDTH of type 2) without reoptimization": [
         "IPv6 ends", "P2MP ends", "the bandwidth of before", "the bandwidth of before without P"],
-    "SVEC, RRO without reoptimization, an XRO with the flag F (for an LSP that has failed)": [
-        "an SVEC", "an SVEC without P", "an RRO", "an RRO without P", "an XRO with the flag F", "an XRO with the flag F, without P"],
+    "an SVEC whose requests [aren't a pair](#pairs), RRO without reoptimization, an XRO with the flag F (for an LSP that has failed)": [
+        "an SVEC", "an SVEC without P", "no pair: {name}", "no pair: {name}, without P", "a server that takes no pair rows: an SVEC",
+        "an RRO", "an RRO without P", "an XRO with the flag F", "an XRO with the flag F, without P"],
     ("an XRO if the server takes no `except` rows, an XRO that names SRLGs if `--srlgs` isn't given, every other class, LSP in a session "
      "without the stateful capability"): [
         "a server that takes no except rows: an XRO", "a server that takes no except rows: an XRO without P",
@@ -311,6 +319,17 @@ TABLE = {
     "a second session from one address, while the first one is alive": ["two PCCs of one address", "beside one that is alive"],
     "a report in a session without the stateful capability": ["a report without capability"],
     "a report of one LSP more than `--most-lsps` says; it closes the session": ["one LSP too many"],
+    "SVEC (RFC 5440 7.13)": [
+        "ids in the other order", "flags that mean nothing", "two SVECs", "a third request beside it", "the flag S", "no flag", "one id",
+        "the flag for links of one direction", "the flag for paths that are diverse in part", "an id that isn't in the PCReq",
+        "ids in two SVECs", "an SVEC whose ids are in no request", "an SVEC {name}", "no pair: {name}: a request that no SVEC names"],
+    "objects behind the SVEC (RFC 5541 3.2)": [
+        "the objective MCC", "the objective MCC without P", "the objective MLL", "a metric behind it", "an XRO behind it"],
+    "RP and END-POINTS of both requests": ["other ends", "the ends in the other order", "a pair of two setup types",
+                                           "a pair whose ends are interfaces"],
+    "LSPA and BANDWIDTH of both requests": ["affinities and bandwidth", "other bandwidth", "bandwidth of one alone", "other affinities",
+                                            "another setup priority"],
+    "IRO, XRO, METRIC as a bound": ["an IRO", "an XRO", "a bound", "a bound on SIDs"],
     "sends PCErr 1/4 with an Open": ["PCErr 1/4: {name}"],
     "says in its Open that it sends no Keepalives": ["Keepalive 0, DeadTimer 3"],
     "sends nothing for the time of its dead timer": ["the dead timer", "256 requests that wait for the server, and the dead timer",
@@ -345,5 +364,5 @@ def pcep(_, checks):
     with tempfile.TemporaryDirectory() as room:
         checks.parts_in(room, (mapping, malformed, timers, deaf, reset, collected, paced, unheard, heavy, in_slices, in_vain, crowded,
                                places, moved, strange, delegated, followed, races, updated, initiated, looked_at, making, segments,
-                               *SESSIONS, *EXCLUDED, *RISKS, refusals, other_words, silences, downs, constraints, mixed, setups, owners,
-                               marked, journals, raised, documented), checks)
+                               *SESSIONS, *EXCLUDED, *RISKS, *PAIRED, refusals, other_words, silences, downs, constraints, mixed, setups,
+                               owners, marked, journals, raised, documented), checks)

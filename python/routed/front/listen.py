@@ -31,7 +31,8 @@ With --show there is a place for those who may look at the network and not chang
 where updates come in, at the newest version. Nothing else is taken there: any other line is answered by `refused` and the end.
 
 With --except the server takes `except` rows of those who ask, too, as `routed-tools pcep` sends them for requests that
-exclude links and routers. Without it they are refused by the reason `kind`.
+exclude links and routers. With --pairs it takes `pair` rows, too, which ask for two ways that share no circuit or no
+router. Without these options such rows are refused by the reason `kind`.
 
 With --begin the batches of a file, as `routed snapshot` makes them, are published before any connection is taken.
 
@@ -134,7 +135,7 @@ class Front:
         ours = f"/proc/{os.getpid()}/fd"  # inherited, an end of a pipe would stay open in the server whatever it closes: it opens its own
         clients = pipe_of("".join(f"{ours}/{rows}={ours}/{lines}\n" for rows, lines in (seat.place for seat in self.seats.all)))
         words = [self.options.program, "serve", "--explain", "--journal", self.options.journal, "--clients-from", f"{ours}/{clients}",
-                 "--reopen", "--figures", self.account.tallies.path, *(["--except"] if self.options.takes_except else [])]
+                 "--reopen", "--figures", self.account.tallies.path, *self.options.questions]
         with tried(self.options.program, program.hint(self.options.program)):
             self.server = subprocess.Popen(words, stdin=self.theirs[0], stdout=self.theirs[1], preexec_fn=outlive_limits)
         for file in self.theirs:
@@ -282,7 +283,9 @@ def main(given: list[str] | None = None) -> int:
     words.add_argument("--updates-mode", type=mode, metavar="MODE", help="those of the socket where updates come in (that of --mode)")
     words.add_argument("--each", type=int, choices=range(0, 65), default=0, metavar="N",
                        help="how many asking connections one user has at once at paths, or one address at a port, 0 for any number (0)")
-    words.add_argument("--except", action="store_true", dest="takes_except", help="take `except` rows of those who ask")
+    for option, word in (("--except", "except"), ("--pairs", "pair")):
+        words.add_argument(option, action="append_const", const=option, dest="questions", default=[],
+                           help=f"take `{word}` rows of those who ask")
     words.add_argument("--direct", type=Endpoint, metavar="PLACE", help="where clients of this machine get the ends of their own pipes")
     words.add_argument("--direct-mode", type=mode, metavar="MODE", help="that of the socket of --direct (that of --ask-mode)")
     words.add_argument("--watch", type=Endpoint, metavar="PLACE", help="where the line of each version is read")

@@ -2,16 +2,17 @@
 from __future__ import annotations
 
 import functools
-import struct
 import typing
 
 from ..follow.slices import Form
+from ..model.pairs import constraints_of
 from ..model.rows import Reply, Request
 from ..net.loop import Owner
 from . import wire
 from .exclusions import TooMany, Unavailable
-from .protocol import SessionFront
-from .requests import MOST_OBJECTS, MOST_RETURNED, UNAVAILABLE, UNKNOWN_FROM, UNKNOWN_TO, VECTORS, Asked, no_path, path, requests_of
+from .protocol import KIND, Fault, SessionFront
+from .requests import MOST_OBJECTS, UNAVAILABLE, UNKNOWN_FROM, UNKNOWN_TO, VECTORS, Asked, no_path, number_of, path, requests_of
+from .svecs import Svec, Svecs, are_alike, joined, replies_of
 from .wire import Object, Refused, pack
 
 if typing.TYPE_CHECKING:
@@ -35,34 +36,53 @@ class Answers:
         return self.count >= MOST_ASKED
 
     def take(self, objects: list[Object]) -> None:
-        """The requests of a PCReq, which are begun one by one as there is room."""
+        """The requests of a PCReq, which are begun one by one as there is room, and both of a pair at once."""
         before, requests = requests_of(objects)
-        svec, is_bound = b"", any(given.must for given in before)
-        for given in before:
-            if len(svec) + 4 + len(given.body) <= MOST_RETURNED:
-                svec += pack(given.kind, given.body, given.type, ignored=True)
-        self.session.work.extend(functools.partial(self.begin, rp, rest, is_bound, svec) for rp, rest in requests)
+        numbers = [number_of(rp) for rp, _ in requests]
+        svecs, pairs = Svecs(before, numbers), dict[Svec, list[tuple[Object, list[Object]]]]()
+        for number, request in zip(numbers, requests):
+            svec = svecs.pairs.get(number)
+            if svec is None:
+                self.session.work.append(functools.partial(self.begin, *request, number in svecs.refused, svecs.returned))
+            elif svec in pairs:
+                pairs[svec].append(request)
+            else:
+                pairs[svec] = [request]
+                self.session.work.append(functools.partial(self.begin_pair, pairs[svec], svec, svecs.returned))
 
-    def begin(self, rp: Object, rest: list[Object], is_bound: bool, svec: bytes) -> None:
-        """Reads a request, and asks the server. One that an SVEC binds to others, which has to be processed, is no row."""
+    def begin(self, rp: Object, rest: list[Object], is_bound: bool, returned: bytes) -> None:
+        """Reads a request, and asks the server."""
+        if asked := self.read(rp, rest, is_bound, returned):
+            self.ask(asked)
+
+    def begin_pair(self, two: list[tuple[Object, list[Object]]], svec: Svec, returned: bytes) -> None:
+        """Reads two requests that an SVEC binds, and asks the server for both."""
+        both = [asked for rp, rest in two if (asked := self.read(rp, rest, False, returned))]
+        if len(both) == 2 and are_alike(*both):
+            self.ask_pair(both, svec)
+        else:
+            self.unbind(both, svec)
+
+    def read(self, rp: Object, rest: list[Object], is_bound: bool, returned: bytes) -> Asked | None:
+        """Reads a request. One that an SVEC binds to others, which has to be processed, is no row."""
         try:
             asked = Asked(rp, bool(self.front.srlgs))
         except Refused as fault:
             self.session.refuse(*fault.args, pack(rp.kind, rp.body[:8], rp.type))
-            return
+            return None
         try:
             if is_bound:
-                raise Refused(4, 1)
+                raise Refused(*wire.CLASS)
             if len(rest) >= MOST_OBJECTS:
                 raise wire.BadObject
             asked.read(rest, self.session.setup_types, self.session.is_stateful)
         except Refused as fault:
             self.refused(asked, fault)
-            return
-        asked.svec = svec
+            return None
+        asked.returned = returned
         self.vain.pop(asked.id, None)
         self.pending.add(asked)
-        self.ask(asked)
+        return asked
 
     def ask(self, asked: Asked) -> None:
         try:
@@ -99,6 +119,57 @@ class Answers:
             found = self.refused(asked, fault)
         self.finish(asked, *found)
 
+    def ask_pair(self, both: list[Asked], svec: Svec) -> None:
+        for asked in both:
+            asked.is_of_pair = True
+            asked.sent = self.session.question(asked.request, asked.setup_type)  # it excludes nothing
+        self.count += 1
+        self.front.ask(constraints_of(both[0].sent, svec.kind), functools.partial(self.pair_answered, both, svec), self.session.owner)
+
+    def pair_answered(self, both: list[Asked], svec: Svec, line: str | None) -> None:
+        self.count -= 1
+        left = [asked for asked in both if asked in self.pending]
+        if self.session.state == "up" and left:
+            if KIND.fullmatch(line or ""):
+                self.unbind(left, svec)
+            else:
+                self.go_on_pair(both, left, svec, line)
+        self.session.wake()
+
+    def go_on_pair(self, both: list[Asked], left: list[Asked], svec: Svec, line: str | None) -> None:
+        """Asks once more by the Router IDs of the ends, or sends both answers. If one can't be sent, the other isn't either."""
+        answers = replies_of(line or "") or (None, None)
+        if answers[0] and any([self.has_other_ends(asked, answers[0]) for asked in both]):
+            head, tail = both[0].request.ends
+            if head != tail:
+                self.ask_pair(both, svec)
+                return
+            answers = None, None  # no row has equal ends
+        faults = [fault for asked, answer in zip(both, answers) if (fault := self.fault(asked, answer))]
+        for asked, answer in zip(both, answers):
+            if asked in left:
+                try:
+                    found = self.without(asked, faults[0]) if faults else self.answer(asked, answer, line)
+                except Refused as fault:
+                    found = self.refused(asked, fault)
+                self.finish(asked, *found)
+
+    def fault(self, asked: Asked, answer: Reply | None) -> Fault | None:
+        """Why a way of a pair can't be sent."""
+        if answer is None or answer.why or asked.unknown:
+            return None
+        return self.session.ero(answer, asked.request, asked.sent, asked.setup_type)[1]
+
+    def unbind(self, those: list[Asked], svec: Svec) -> None:
+        """No row says what an SVEC asks for: its requests are refused if it has to be processed, or else asked for one by one."""
+        for asked in those:
+            asked.is_of_pair = False
+            if svec.must:
+                self.finish(asked, *self.refused(asked, Refused(*wire.CLASS)))
+            else:
+                asked.returned = joined(asked.returned, svec.objects)
+                self.ask(asked)
+
     def finish(self, asked: Asked, data: bytes, outcome: str) -> None:
         self.pending.remove(asked)
         self.front.count("requests", outcome)
@@ -112,10 +183,15 @@ class Answers:
         self.session.refuse(*fault.args, asked.rp())
         return b"", "refused"
 
+    def without(self, asked: Asked, fault: Fault) -> tuple[bytes, str]:
+        """The message for a request whose route has no ERO, if it's no error, and what became of it."""
+        error, why = fault
+        return self.refused(asked, Refused(*error), why) if error else self.unavailable(asked, why)
+
     def unavailable(self, asked: Asked, why: str) -> tuple[bytes, str]:
         """The message for a request that can't be answered now, and what became of it."""
         self.warn(asked, why)
-        return no_path(asked.svec + asked.rp(), UNAVAILABLE), "unavailable"
+        return no_path(asked.returned + asked.rp(), UNAVAILABLE), "unavailable"
 
     def warn(self, asked: Asked, why: str) -> None:
         self.front.say("warning", f"{self.session.peer}: request {asked.id}: {why}")
@@ -138,7 +214,7 @@ class Answers:
 
     def answer(self, asked: Asked, answer: Reply | None, line: str | None) -> tuple[bytes, str]:
         """The message for a request, and what became of it."""
-        front, request = asked.svec + asked.rp(), asked.request
+        front, request = asked.returned + asked.rp(), asked.request
         if line is None:
             self.keep_vain(asked)
             return no_path(front, UNAVAILABLE), "unavailable"
@@ -156,13 +232,13 @@ class Answers:
             return no_path(front, 0, b"".join(wire.metric(wire.TE_METRIC, bound, is_bound=True) for bound in broken)), "above the bound"
         ero, why = self.session.ero(answer, request, asked.sent, asked.setup_type)
         if why:
-            return self.refused(asked, Refused(*why[0]), why[1]) if why[0] else self.unavailable(asked, why[1])
+            return self.without(asked, why)
         has_room = len(front) + len(ero) + len(request.ignored) + 16 <= wire.MOST
         return path(front, ero, answer.cost, request.ignored) if has_room else path(asked.rp(), ero, answer.cost, b""), "route"
 
     def keep_vain(self, asked: Asked) -> None:
-        """A request without a path is asked again at each version, where the front may close the session for it."""
-        if self.front.options.reopen and len(self.vain) < MOST_KEPT:
+        """A request without a path is asked again at each version, where the front may close the session for it. One of a pair isn't."""
+        if self.front.options.reopen and not asked.is_of_pair and len(self.vain) < MOST_KEPT:
             self.vain[asked.id] = asked
 
     def again(self) -> None:
@@ -211,7 +287,7 @@ class Answers:
 
     def cancel(self, objects: list[Object]) -> None:
         """The PCC doesn't want answers to these requests any more."""
-        ids = {struct.unpack_from("!I", given.body, 4)[0] for given in objects if given.kind == wire.O_RP and len(given.body) >= 8}
+        ids = {number_of(given) for given in objects if given.kind == wire.O_RP}
         for asked in [asked for asked in self.pending if asked.id in ids]:
             self.pending.remove(asked)
             self.front.count("requests", "cancelled")

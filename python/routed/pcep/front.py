@@ -35,6 +35,7 @@ from .wanted import by_pcc, wanted
 
 MOST_VALUES = 256  # values of a figure's label: PCCs choose some of them
 UPDATES = "accepted", "refused", "unanswered"  # what becomes of one
+WORDS = "ask", "except", "pair"  # of rows and lines that are kept, each in files of its own
 
 
 DIGITS = 6  # of a run's number, at most
@@ -51,7 +52,7 @@ class Front:
         self.srlgs: Srlgs | None = Srlgs(options.srlgs) if options.srlgs else None
         self.files = [file for file in (self.sids, self.srlgs) if file]
         self.network = Network(options.journal, self.say)
-        self.replies = {word: Replies(options.replies, self.say, word) for word in ("ask", "except")} if options.replies else {}
+        self.replies = {word: Replies(options.replies, self.say, word) for word in WORDS} if options.replies else {}
         self.version, self.is_over, self.number = 0, False, int(time.time())
         self.pccs: dict[str, Pcc] = {}  # by their addresses
         self.census = Census(self.pccs)

@@ -1,4 +1,5 @@
 """What the sessions of PCCs ask of the front that they share."""
+import re
 from argparse import Namespace
 from collections.abc import Callable, Iterable, Sequence
 from typing import Protocol
@@ -11,6 +12,8 @@ from .sids import Sids
 from .srlgs import Srlgs
 
 Link = tuple[str, str, int]  # a link of a segment routing path: near address, far address, label
+Fault = tuple[tuple[int, int] | None, str]  # why a route has no ERO: the error that says so, if any, and words
+KIND = re.compile(r"row \d+ refused: kind")  # how a server refuses rows that it doesn't take
 
 
 class SessionFront(Protocol):

@@ -1,6 +1,7 @@
 """Requests and reply lines in files, as `routed audit` reads them: pairs N.requests and N.replies, of one run of the server each. If the
 run has a number, they are RUN.N.requests and RUN.N.replies, and RUN.journal is the journal of that run in the folder of deploy/keep.
-`except` rows are in pairs of their own, N.except_requests and N.except_replies: an audit reads them by another option."""
+`except` rows are in pairs of their own, N.except_requests and N.except_replies, and so are `pair` rows, N.pair_requests and
+N.pair_replies: an audit reads them by other options."""
 from __future__ import annotations
 
 import os

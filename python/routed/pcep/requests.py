@@ -23,6 +23,7 @@ REVERSE = 1 << 4  # RP: both directions
 REOPTIMIZE = 1 << 3  # RP
 BANDWIDTH_HELD = wire.O_BANDWIDTH, 2  # class and type of the bandwidth that an LSP has
 NOWHERE = "", ""  # the ends of a request that has none yet
+BEHIND_SVEC = wire.O_OF, wire.O_METRIC, wire.O_XRO  # classes of objects that are about the requests of an SVEC (RFC 5541 3.2, 5557)
 VECTORS = {"none": 0, "unknown-to": UNKNOWN_TO, "unknown-from": UNKNOWN_FROM}
 
 
@@ -156,7 +157,8 @@ class Asked:
             raise Refused(10, 1)
         self.must, self.setup_type, self.request = rp.must, 0, Request(has_srlgs)
         self.sent = self.request.asked()  # what was asked last
-        self.tlvs, self.svec = rp.body[8:], b""
+        self.tlvs, self.returned = rp.body[8:], b""  # the latter: what an answer returns in front of the RP
+        self.is_of_pair = False  # whether one row asks for it and for another request
         self.is_resolved, self.unknown = False, 0  # whether its ends were looked up; a bit of the NO-PATH-VECTOR
         self.first = 0  # the bit of the answer before they were looked up
         self.is_asked = False  # again, after it had no path
@@ -205,14 +207,20 @@ def is_of_own_lsp(given: Object) -> bool:
     return (given.kind, given.type) in ((wire.O_RRO, 1), BANDWIDTH_HELD)
 
 
+def number_of(rp: Object) -> int:
+    """The id of a request; 0 where its RP is too short."""
+    return struct.unpack_from("!I", rp.body, 4)[0] if len(rp.body) >= 8 else 0
+
+
 def requests_of(objects: list[Object]) -> tuple[list[Object], list[tuple[Object, list[Object]]]]:
-    """The requests of a PCReq, each its RP and the objects behind it, and the SVECs before them."""
+    """What stands before the requests of a PCReq, and the requests, each its RP and the objects behind it."""
     starts = [at for at, given in enumerate(objects) if given.kind == wire.O_RP]
     if not starts:
         raise Refused(6, 1)
-    before = objects[:starts[0]]
+    before, has_svec = objects[:starts[0]], False
     for given in before:
-        if given.kind != wire.O_SVEC and given.must:
+        has_svec |= given.kind == wire.O_SVEC
+        if given.must and given.kind != wire.O_SVEC and not (has_svec and given.kind in BEHIND_SVEC):
             raise Refused(*(UNKNOWN_CLASS if given.kind not in READERS else (6, 1)))
     return before, [(objects[at], objects[at + 1:end]) for at, end in zip(starts, [*starts[1:], len(objects)])]
 

@@ -2,7 +2,6 @@
 
 It has no socket and no clock: it is given bytes and times, and gives bytes."""
 import collections
-import re
 import struct
 from collections.abc import Callable
 
@@ -12,7 +11,7 @@ from ..net.loop import Owner
 from . import wire
 from .answers import Answers
 from .lsps import Lsps
-from .protocol import SessionFront
+from .protocol import KIND, Fault, SessionFront
 from .requests import Request
 from .wire import Malformed, Object, Refused, pack, tlv
 
@@ -22,7 +21,6 @@ MOST_UNKNOWN, MINUTE = 5, 60  # unknown messages in a minute
 SLICE, BYTES = 8, 1 << 14  # messages, or requests and reports of them, that are taken at once; and bytes of messages
 WEIGHT = 1024  # bytes of a message that count as one more message
 MOST_OVERLOAD = 600  # seconds for which a PCC is left alone that says that it has too much to do
-KIND = re.compile(r"row \d+ refused: kind")  # how a server refuses rows that it doesn't take
 OPEN_WAIT, KEEP_WAIT, UP, OVER = "open wait", "keep wait", "up", "over"
 
 
@@ -329,9 +327,8 @@ class Session:
                 return f"its path has {len(answer.fars)} SIDs, and {who} takes {most}"
         return ""
 
-    def ero(self, answer: Reply, request: Request, asked: rows.Request,
-            setup_type: int) -> tuple[bytes, tuple[tuple[int, int] | None, str] | None]:
-        """The ERO of a route, or why there is none: the error that says so, if any, and words."""
+    def ero(self, answer: Reply, request: Request, asked: rows.Request, setup_type: int) -> tuple[bytes, Fault | None]:
+        """The ERO of a route, or why there is none."""
         if setup_type == 0:
             return pack(wire.O_ERO, answer.subobjects), None
         if why := self.too_deep(answer, request, setup_type):
