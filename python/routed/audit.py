@@ -1,6 +1,6 @@
 """Runs `routed audit`, and shows on a terminal how far it is.
 
-    routed-tools audit --journal FILE --requests FILE --replies FILE [--except] [--explain] [--program FILE]
+    routed-tools audit --journal FILE --requests FILE --replies FILE [--except] [--pairs] [--explain] [--program FILE]
 
 The words are those of `routed audit`, and so are its lines and its status. Where standard error is a terminal, a line there says how
 much of the replies has been read, and how long the rest will take.
@@ -58,12 +58,13 @@ def main(words: list[str] | None = None) -> int:
     for name in ("journal", "requests", "replies"):
         asked.add_argument(f"--{name}", required=True, metavar="FILE")
     asked.add_argument("--except", action="store_true", dest="takes_except", help="take `except` rows, too, and judge their lines")
+    asked.add_argument("--pairs", action="store_true", help="take `pair` rows, too, and judge their lines")
     asked.add_argument("--explain", action="store_true", help="the default, which says why a run stops, or which row a file is refused for")
     program.add_option(asked)
     given = asked.parse_args(words)
     path = program.find(given.program)
     run_words = [path, "audit", "--journal", given.journal, "--requests", given.requests, "--replies", given.replies, "--explain",
-                 *(["--except"] if given.takes_except else [])]
+                 *(["--except"] if given.takes_except else []), *(["--pairs"] if given.pairs else [])]
     for name in (given.journal, given.requests, given.replies):
         if os.path.isfile(name) or not os.path.exists(name) or os.path.isdir(name):  # a pipe can't be read twice
             try:

@@ -3,15 +3,18 @@ from __future__ import annotations
 
 import contextlib
 import re
+from typing import TypeVar
 
 from .model.database import Database
 from .model.journals import read_snapshot
+from .model.pairs import PairReply, row_of
 from .model.rows import Refused, Reply, Request
 from .net.direct import direct
 from .net.endpoints import Endpoint
 from .net.loop import Loop
 from .net.stream import Lines, Stream
 
+T = TypeVar("T", Reply, PairReply)
 MOST_LINES = 40_000  # of a snapshot
 VERSION, RUN = re.compile(r"version ([0-9]{1,20})"), re.compile(r"run ([0-9]{1,20})")
 
@@ -44,13 +47,26 @@ class Client:
 
     def answer(self, request: Request) -> tuple[str, Reply]:
         """The same, behind its line as it came."""
-        self.asks.stream.write(f"{request.text()}\n".encode())
-        line = self.asks.line()
-        reply = Reply.parse(line)
+        line = self.line_to(request.text())
+        return line, self.taken(request, line, Reply.parse(line))
+
+    def pair(self, request: Request, kind: str) -> PairReply:
+        """The reply to a request for two ways that share no circuit (kind `circuits`), or no router either (`routers`). A pair has neither
+        hops nor what a request excludes. The server has to be started with --pairs."""
+        line = self.line_to(row_of(request.id, request, kind))
+        return self.taken(request, line, PairReply.parse(line))
+
+    def line_to(self, row: str) -> str:
+        """The line of a row."""
+        self.asks.stream.write(f"{row}\n".encode())
+        return self.asks.line()
+
+    def taken(self, request: Request, line: str, reply: T | None) -> T:
+        """The reply of a line, if it is one to this request."""
         if reply is None or reply.id != request.id:
             raise Refused(line)
         self.version = max(self.version, reply.version)
-        return line, reply
+        return reply
 
     def wait(self, version: int) -> int:
         """Waits until this version is published, or a later one. The newest that is known."""

@@ -2,7 +2,8 @@
 import itertools
 from fractions import Fraction
 
-from reference.formats import address_text
+from reference import pairs
+from reference.formats import address_number, address_text
 from reference.runs import publish, requests_of, whole_batches
 
 
@@ -59,7 +60,26 @@ def asked_of(pairs):
     return asked
 
 
-def plain(rows, asks, fail, capacities=None):
+def partner_lines(network, requests, walks):
+    """The lines of partners, of requests with a route."""
+    counts = dict.fromkeys(pairs.KINDS, 0)
+    for request, walk in zip(requests, walks):
+        for kind in pairs.KINDS if walk is not None else ():
+            found = pairs.outcome(network, request, kind)
+            if not isinstance(found, str):
+                counts[kind] += 1
+                cost, was = (sum(each["metric"] for each in links) for links in ([*found[0], *found[1]], walk))
+                said = f"pair cost={cost} was={was} more={cost - was}"
+            elif found.startswith("each by "):
+                router, local = map(address_number, found.removeprefix("each by ").split(","))
+                said = f"by {name_of(network.links, (router, local))}"
+            else:
+                said = found.removeprefix("each ")
+            yield f"before partner {kind} request {request['id']} {said}"
+    yield f"before partners circuits={counts['circuits']} routers={counts['routers']}"
+
+
+def plain(rows, asks, fail, capacities=None, has_partners=False):
     """What a sweep says, from the routes of tests/reference/formats.py as they are, with no object read and each request asked in each
     scenario."""
     network, requests = publish(whole_batches(rows))[0][-1], requests_of(asks)
@@ -99,6 +119,8 @@ def plain(rows, asks, fail, capacities=None):
     yield from (f"before without request {request['id']} {word}" for request, word in without)
     yield from (f"before {fact}" for _, fact in before.values())
     yield f"before routes={len(requests) - len(without)} without={len(without)} overbooked={len(before)}"
+    if has_partners:
+        yield from partner_lines(network, requests, [walk for _, walk in base])
     totals, done, loads = [0, 0, 0], [], []
     for place, scenario in enumerate(failing, 1):
         out = {key for _, keys in scenario for key in keys}

@@ -11,14 +11,14 @@ from program.serving import PATIENCE
 from tools.fronts import Connection
 from tools.reading import PAIR, seen
 
-from routed import Client, Refused, Reply, Request
+from routed import Client, PairReply, Refused, Reply, Request
 
 PAGE = os.path.join(TOP, "docs/run/PYTHON.md")
 ROUTE, OTHER = Request(1, "1.1.1.1", "2.2.2.2", 0, 5), Request(2, "3.3.3.3", "2.2.2.2")
 
 
 def client(program, checks):
-    for part in (page, answers, raised):
+    for part in (page, answers, pairs, raised):
         with tempfile.TemporaryDirectory() as room:
             checks.part(f"client: {part.__name__}", part, program, checks, room)
 
@@ -54,6 +54,22 @@ def answers(program, checks, room):
                 raises(checks, "a place that is taken", lambda: other.ask(ROUTE), Refused, "busy")
             raises(checks, "a row that is refused", lambda: one.ask(Request(1, "x", "2.2.2.2")), Refused, "row 51 refused: address 3")
             checks.same("and on", one.ask(OTHER).version, 49)
+
+
+def pairs(program, checks, room):
+    """Pairs, and the circuit that each way has."""
+    with seen(program, room, "--pairs") as front, Client(front.ask, os.path.join(room, "watch")) as one:
+        updating = Connection(front.updates)
+        updating.say(PAIR + "end,1,2\n" + PAIR.replace("10.0.12.", "10.0.21.") + "end,2,2\ndrop,2.2.2.2,10.0.21.2\nend,3,1\n")
+        one.wait(3)
+        checks.same("a circuit that each way has", one.pair(ROUTE, "circuits"), PairReply(1, 3, each=("1.1.1.1", "10.0.12.1")))
+        raises(checks, "a kind that is none", lambda: one.pair(ROUTE, "links"), Refused, "row 2 refused: kind-of-pair")
+        checks.same("an unknown end", one.pair(OTHER, "routers"), PairReply(2, 3, why="unknown-from"))
+        updating.say(PAIR.replace("10.0.12.", "10.0.21.").splitlines(keepends=True)[1] + "end,4,1\n")
+        one.wait(4)
+        found = one.pair(ROUTE, "routers")
+        checks.same("a pair", (found, found.cost, one.version),
+                    (PairReply(1, 4, tuple(Reply(1, 4, None, 10, (f"10.0.{circuit}.2",)) for circuit in (12, 21))), 20, 4))
 
 
 def raised(program, checks, room):

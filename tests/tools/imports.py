@@ -6,6 +6,9 @@ import subprocess
 import tempfile
 
 from checks import TOOLS, TOP
+from reference import pairs
+from reference.formats import records
+from reference.runs import publish, whole_batches
 
 SNDLIB = """?SNDlib native format; type: network; version: 1.0
 # three sites
@@ -225,6 +228,17 @@ def refusals(_, checks):
         checks.same(f"refused words: {' '.join(words)}", run(SNDLIB, *words)[:2], (2, ""))
 
 
+def pairs_by_reference(program, checks, stem, journal):
+    """The requests of pairs of an example, of each kind."""
+    with open(os.path.join(TOP, f"examples/{stem}.pairs"), encoding="ascii") as file:
+        text = file.read()
+    network, asked = publish(whole_batches(journal))[0][-1], [pairs.question(fields) for fields in records(text)]
+    wanted = ["version 1", *(pairs.answer(network, 1, question) for question in asked)]
+    status, out, err = program.run(["solve", "--pairs"], journal + text)
+    checks.same(f"examples/{stem}.pairs", (status, out.decode().splitlines(), err), (0, wanted, b""))
+    checks.same(f"the kinds of examples/{stem}.pairs", {kind for _, kind in asked}, set(pairs.KINDS))
+
+
 def examples(program, checks):
     """The examples' rows, positions and requests are what their networks make; `routed` takes them, and each request has a route."""
     for name, words, sizes in (("europe.graphml", [], (28, 47, 28)), ("germany.sndlib", ["--requests", "requests"], (50, 89, 106))):
@@ -236,6 +250,7 @@ def examples(program, checks):
         status, out, err = program.batch(kept["journal"], kept["requests"])
         replies = re.findall(rb"(?m)^ask \d+ v1 route ", out)
         checks.same(f"routed takes examples/{name}", (status, err, len(replies)), (0, b"", sizes[2]))
+        pairs_by_reference(program, checks, stem, kept["journal"])
         checks.true(f"the sizes of examples/{name}", said.startswith(f"{sizes[0]} routers, {sizes[1]} circuits, "), said)
     edges = "".join(node(at) for at in range(50)) + "".join(edge(at % 50, (at + 1) % 50) for at in range(8192))
     status, out, err = program.solve(run(graphml(edges))[1].encode())

@@ -40,7 +40,7 @@ def files(room):
             "quote": journal.replace(b"put,", b'put,"', 1), "unended": journal + lines[0], "torn": journal[:1000],
             "replies": b"ask 1 v1 none\n", "zip": b"PK\x03\x04" + journal, "twice": b"ask,1,1.1.1.1,2.2.2.2,0,0,0x0,0x0,0x0,\n" * 2,
             "absent": journal + b"drop,1.1.1.1,2.2.2.2\nend,11,1\n", "places": b"1.1.1.1 east north\n", "closed": b"",
-            "part": b"scenarios=0 lost=0 longer=0 overbooked=0\n",
+            "pairs": b"pair 1 v1 none\n", "part": b"scenarios=0 lost=0 longer=0 overbooked=0\n",
             "unit": b"?SNDlib native format; type: network\nMETA ( unit = ERLANG )\n",
             "nothing": b"", "other": journal.replace(b"end,2,", b"end,3,"), "spaces": journal.replace(b",", b" ")}
     for name, data in made.items():
@@ -69,6 +69,8 @@ TABLE = {
     "half a row": ("sweep torn R", None, 1, "row 9 refused: fields; a put row has 15 fields"),
     "a batch with the wrong number": ("sweep other R", None, 1, "batch 3 refused: expected 2; give the batch the number"),
     "replies in place of requests": ("sweep J replies", None, 1, "it is lines that routed or a tool has written, not rows"),
+    "lines of pairs in place of requests": ("sweep J pairs", None, 1, "it is lines that routed or a tool has written, not rows"),
+    "a pair of no way": ("draw J --replies pairs --ask 1", None, 1, "no route in the reply: pair 1 v1 none"),
     "a journal in place of requests": ("sweep J J", None, 1, "request row 1 refused: kind; a row begins with"),
     "one id twice": ("sweep J twice", None, 1, "same-id; give each request an id of its own"),
     "a file that may not be read": ("sweep closed R", None, 1, "closed: Permission denied; give yourself the right to it"),

@@ -88,6 +88,63 @@ def of_books(checks):
     checks.same("a book that placed nothing", (status, picture, said), (1, "", "draw: no reply to 7\n"))
 
 
+def pairs(_, checks):
+    """Both ways of a pair, and what each way has where there is no pair."""
+    rows = LINE + PAIR.replace("10.0.0", "10.0.2").replace("2.2.2.2", "3.3.3.3") + "end,1,6\n"
+    one, two = "cost1=10 ero1=000c140101080a0002022000", "cost2=20 ero2=0014140101080a000002200001080a0001022000"
+    pair = f"pair 7 v1 pair cost=30 hops=3 {one} {two}\n"
+
+    def style_of(route):
+        return re.findall("stroke:([^;]*);.*stroke-dasharray:([^;]*)", route.get("style"))[0]
+
+    status, picture, said = draw(rows, "--ask", "7", replies=pair)
+    texts = ["pair 7 v1, first way: 1.1.1.1 to 3.3.3.3, cost 10, 1 link", "pair 7 v1, second way: 1.1.1.1 to 3.3.3.3, cost 20, 2 links"]
+    checks.same("both ways of a pair", (status, said, hovers(picture, "route")), (0, "", texts))
+    checks.same("both ways are in the legend", [note for note in notes(picture) if note.startswith("pair")], texts)
+    (color, dash), other = map(style_of, shapes(picture, "route"))
+    checks.same("the second way has the color of the first and dashes", (dash, other), ("none", (color, "11 4")))
+    replies = pair + "".join(pair.replace("pair 7", f"pair {at}") for at in (8, 9)) + "except 1 v1 none\n" + "".join(
+        f"{word} {at} v1 route cost=10 hops=1 again=no ero=000c140101080a0000022000\n" for at, word in enumerate(("ask", "except"), 1))
+    _, picture, _ = draw(rows, *(word for at in "1728" for word in ("--ask", at)), replies=replies)
+    drawn = [(text.split(":")[0], *style_of(route)) for text, route in zip(hovers(picture, "route"), shapes(picture, "route"))]
+    colors = [name for _, name, _ in drawn]
+    checks.same("pairs beside other replies", [name for name, *_ in drawn], [
+        "ask 1 v1", "pair 7 v1, first way", "pair 7 v1, second way", "except 2 v1", "pair 8 v1, first way", "pair 8 v1, second way"])
+    checks.true("the ways of a pair have a color of their own", (colors[1], colors[4]) == (colors[2], colors[5])
+                and len({colors[0], colors[1], colors[4]}) == 3 and len(set(drawn)) == 6 and colors[3] == colors[0], drawn)
+    checks.same("three pairs", len(shapes(draw(rows, "--ask", "7", "--ask", "8", "--ask", "9", replies=replies)[1], "route")), 6)
+    words = [word for at in "7892" for word in ("--ask", at)]
+    checks.same("three pairs and a route are refused", draw(rows, *words, replies=replies), (1, "", "draw: at most 6 routes\n"))
+    of_no_pair(checks, rows)
+    for name, line, why in (("no way", "none", "no route in the reply"), ("an unknown head-end", "unknown-from", "no route in the reply"),
+                            ("a link that isn't there", "each by 1.1.1.1,10.0.0.2", "the network has no such link"),
+                            ("a router that isn't there", "each through 4.4.4.4", "the network has no such router"),
+                            ("another way", pair[10:-1].replace("0a000202", "0a000203"), "the network has no such route"),
+                            ("another cost", pair[10:-1].replace("cost2=20", "cost2=21"), "the network has no such route"),
+                            ("two ends", pair[10:-1].replace("0a000202", "0a000002"), "the network has no such pair")):
+        status, picture, said = draw(rows, "--ask", "7", replies=f"pair 7 v1 {line}\n")
+        checks.same(f"a pair of {name} is refused", (status, picture, said), (1, "", f"draw: {why}: pair 7 v1 {line}\n"))
+
+
+def of_no_pair(checks, rows):
+    """A circuit that each way has is between two lines, and a router that each way passes is in a square."""
+    reasons = "pair 7 v1 each by 2.2.2.2,10.0.1.1\npair 8 v1 each through 2.2.2.2\n"
+    status, picture, said = draw(rows, "--ask", "7", "--ask", "8", replies=reasons)
+    texts = ["pair 7 v1: no pair, each way has the circuit 2.2.2.2 – 3.3.3.3", "pair 8 v1: no pair, each way passes 2.2.2.2"]
+    checks.same("what each way has", (status, said, hovers(picture, "each"), notes(picture)[-2:]), (0, "", texts[:1], texts))
+    checks.same("marks of it, there and in the legend", classes(picture, "each", "circuit", "through", "route"),
+                ["each", *["circuit"] * 3, "through", "through"])
+    marked = next(line for line in shapes(picture, "circuit") if line.get("d") == shapes(picture, "each")[0].get("d"))
+    checks.true("the two lines are along their circuit", marked[0].text.startswith("2.2.2.2 – 3.3.3.3\n"), marked[0].text)
+    x, y = places_in(picture)["2.2.2.2"]
+    checks.same("the square is round its router", begin_of(shapes(picture, "through")[0]), (round(x - 10, 1), round(y - 10, 1)))
+    back = draw(rows, "--ask", "7", replies=reasons.replace("2.2.2.2,10.0.1.1", "3.3.3.3,10.0.1.2"))[1]
+    checks.same("the other direction of the circuit", hovers(back, "each"),
+                [texts[0].replace("2.2.2.2 – 3.3.3.3", "3.3.3.3 – 2.2.2.2")])
+    _, part, _ = draw(LINE + "end,1,4\n", "--ask", "7", "--around", "1.1.1.1", "--hops", "1", replies=reasons)
+    checks.same("a circuit that isn't drawn", (classes(part, "each"), notes(part)[-1]), ([], texts[0]))
+
+
 def several(checks):
     """Six routes over one circuit, in both directions: none covers another, and no two look alike."""
     back = REPLY.replace("0a000002", "0a000001")
@@ -319,4 +376,4 @@ def sizes(_, checks):
 
 
 def pictures(program, checks):
-    checks.parts((sizes, circuits, routes, overbooked, marks, places, failures, layouts, placer, apart), program, checks)
+    checks.parts((sizes, circuits, routes, pairs, overbooked, marks, places, failures, layouts, placer, apart), program, checks)

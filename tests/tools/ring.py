@@ -122,7 +122,7 @@ WRAPPED = """#!{python}
 import os, signal, subprocess, sys, time
 room, words = {room!r}, sys.argv[1:]
 sys.stdout.reconfigure(write_through=False)  # a line is one write, also under PYTHONUNBUFFERED
-if words[0] != "solve":
+if words[0] != "solve" or "--pairs" in words:
 {first}
     os.execv({program!r}, ["routed", *words])
 def touch(name):
@@ -152,7 +152,8 @@ sys.exit(running.wait())
 
 
 def wrapped(program, room, script="", first=""):
-    """A program that is `routed`, and does in `solve` what the script says of each `row`, and in other commands first what `first` says."""
+    """A program that is `routed`, and does in `solve` without pairs what the script says of each `row`, and in other commands first what
+    `first` says."""
     path = os.path.join(room, "wrapped")
     with open(path, "w") as file:
         file.write(WRAPPED.format(python=sys.executable, room=room, program=program.path,

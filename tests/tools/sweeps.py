@@ -12,6 +12,7 @@ import time
 from checks import TOOLS, TOP
 from reference.formats import address_number, address_text
 from tools.drawn_sweeps import compared, object_of, streams
+from tools.partners import partners
 from tools.ring import A, AB, AD, ASKS, B, BC, BEFORE, C, CD, D, DROPS, FIRST, HANGS, MASKS, OF_CIRCUITS, OF_PAIRS, OF_ROUTERS, RING
 from tools.ring import SWEEP, THIRD, ask, circuit, facts, journal, link, sweep, wrapped
 
@@ -358,4 +359,4 @@ def page(program, checks):
 
 
 def sweeps(program, checks):
-    checks.parts((ring, parts, loads, compared, asked, streams, jobs, progress, joined, refused, page), program, checks)
+    checks.parts((ring, parts, loads, compared, asked, streams, jobs, progress, joined, partners, refused, page), program, checks)

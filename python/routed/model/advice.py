@@ -7,7 +7,7 @@ import re
 from .journals import MARK, batches, records
 from .rows import FIELDS, Refused
 
-KINDS = {*FIELDS, "except", "place", "release"}
+KINDS = {*FIELDS, "except", "pair", "place", "release"}
 FIRST_BYTES = {
     b"\x1f\x8b": "it is compressed by gzip: unpack it by gunzip",
     b"BZh": "it is compressed by bzip2: unpack it by bunzip2",
@@ -18,7 +18,8 @@ FIRST_BYTES = {
     b"\xfe\xff": "it is UTF-16: make it UTF-8 by iconv -f UTF-16 -t UTF-8",
 }
 SEPARATORS = {"\t": ("tabs", r"tr '\t' ,"), ";": ("semicolons", "tr ';' ,"), " ": ("spaces", "tr ' ' ,")}
-LINE = re.compile(r"(?:network |before |scenario \d+ |most |base \d+ v|version \d+$|(?:ask|place) \d+ v\d+ |batch \d+ refused: )")
+LINE = re.compile(r"(?:network |before |scenario \d+ |most |base \d+ v|version \d+$|(?:ask|except|pair|place) \d+ v\d+ "
+                  r"|batch \d+ refused: )")
 HEADER = re.compile(r"\"?[A-Za-z_][A-Za-z0-9_ ]*\"?(?:,\"?[A-Za-z_][A-Za-z0-9_ ]*\"?)+")
 # Of an error's or a refusal's words, what to do. Only the first that is found is said.
 ADVICE = [(re.compile(found), told) for found, told in (
@@ -29,6 +30,7 @@ ADVICE = [(re.compile(found), told) for found, told in (
     ("No space left on device|Disk quota exceeded|File too large", "make room, and run this again"),
     ("Read-only file system", "write to another disk"),
     (r"timed out|Connection refused", "look whether the server runs, and at which place"),
+    (r"refused: kind-of-pair", "write circuits or routers as the last field"),
     (r"refused: kind", "a row begins with put, drop, node, end or ask"),
     (r"refused: fields", "a put row has 15 fields, an ask row 10, a drop, node or end row 3"),
     (r"refused: number \d+", "write digits without a sign, a point or leading zeros"),

@@ -8,6 +8,7 @@ from dataclasses import dataclass, field as attribute, replace
 
 MOST_CHANGES = 4096  # of a batch
 MOST_PARTS = 64  # of the field EXCEPT of an `except` row
+KINDS = "circuits", "routers"  # of a `pair` row, in the place of hops: what its two ways don't share
 OCTET = "(?:[0-9]|[1-9][0-9]|1[0-9][0-9]|2[0-4][0-9]|25[0-5])"
 ADDRESS = re.compile(rf"{OCTET}(?:\.{OCTET}){{3}}")
 NUMBER = re.compile("0|[1-9][0-9]*")
@@ -211,8 +212,10 @@ def parts_of(excluded: str) -> tuple[Part, ...]:
 
 
 def row_of(number: int, constraints: str) -> str:
-    """The row of a request with this id, by the text behind them. An `except` row has one field more than an `ask` row."""
-    return f"{'except' if constraints.count(',') == len(FIELDS['ask']) - 1 else 'ask'},{number},{constraints}"
+    """The row of a request with this id, by the text behind them. An `except` row has one field more than an `ask` row, and a `pair` row
+    has a kind as its last field."""
+    is_except = constraints.count(",") == len(FIELDS["ask"]) - 1
+    return f"{'except' if is_except else 'pair' if constraints.rpartition(',')[2] in KINDS else 'ask'},{number},{constraints}"
 
 
 @dataclass(frozen=True)

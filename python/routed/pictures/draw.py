@@ -6,6 +6,7 @@ changes after the last end row. A row or a batch that `routed` refuses is refuse
 from __future__ import annotations
 
 import argparse
+import itertools
 import math
 import re
 from collections.abc import Iterable, Iterator
@@ -15,6 +16,7 @@ from ..model.advice import not_rows, open_quote
 from ..model.database import Database
 from ..model.journals import read_database
 from ..model.names import NamesRefused
+from ..model.pairs import PairReply
 from ..model.rows import Key, Link, Refused, Reply, Request, rank
 from ..program import failed, number
 from ..sweep.swept import Overbooked, overbooked_before
@@ -28,7 +30,7 @@ from .shapes import Curve
 ANY = Request(0, "", "")  # which each link has enough for
 GROUP_COLORS = [BLUE, ORANGE, GREEN, PURPLE, SKY, YELLOW, GRAY]
 GROUP_DASHES = ["", "9 4", "3 3"]
-# Each route has a color and dashes that no other has, and none of the groups' colors.
+# Each route has a color and dashes that no other has, and none of the groups' colors. The two ways of a pair have one color.
 ROUTE_STYLES = [(color, dash) for dash in ("", "11 4") for color in (RED, "#000000", "#a0148c")]
 LANES = [6.5, -6.5, 10.5, -10.5, 14.5, -14.5]  # how far to the right of a circuit a route is drawn
 THINNEST, WIDEST = 1.5, 7.0  # pixels of a circuit
@@ -38,18 +40,30 @@ UNDER = "stroke:#fff;stroke-width:7;stroke-linejoin:round"  # white under a rout
 
 Line = tuple[Link, Link | None]  # what is drawn as one: a circuit, whose directions are in the same groups, or a link of one way
 Full = dict[str, list[Overbooked]]  # what is overbooked, by a link's name
+Style = tuple[str, str]  # a color and dashes
 
 
 class Route(NamedTuple):
-    """A reply's first words, and its links."""
+    """A reply's first words, the links of its route, and how this is drawn."""
 
     reply: str
     links: list[Link]
+    style: Style
 
 
-def walk_of(database: Database, line: str) -> list[Link]:
-    """The links of a reply's route: each leads to the next address of its object, and has its reverse. They pass through no mark."""
-    reply = Reply.parse(line)
+class Shared(NamedTuple):
+    """The first words of a pair that isn't there, the key of a link that each way has and both its ends, or of a router that each way
+    passes and this router, and how it is drawn."""
+
+    reply: str
+    key: Key
+    ends: tuple[str, ...]
+    style: Style
+
+
+def walks_of(database: Database, reply: Reply | None, line: str) -> list[list[Link]]:
+    """The links of a reply's route: each leads to the next address of its object, and has its reverse. They pass through no mark. Where
+    links to one address leave several routers, there may be several such walks."""
     if not reply or reply.why:
         raise ValueError(f"no route in the reply: {line}")
     first, *others = reply.fars
@@ -60,19 +74,64 @@ def walk_of(database: Database, line: str) -> list[Link]:
     walks = [walk for walk in walks if sum(link.metric for link in walk) == reply.cost]
     if not walks:
         raise ValueError(f"the network has no such route: {line}")
-    return walks[0]
+    return walks
 
 
-def read_routes(asked: argparse.Namespace, database: Database) -> list[Route]:
-    """The routes of the replies that are asked for. In the lines of a book these are the last routes that it placed."""
-    if len(asked.ask) > len(ROUTE_STYLES):
-        raise ValueError(f"at most {len(ROUTE_STYLES)} routes")
+def ends_of(walk: list[Link]) -> tuple[str, str]:
+    """Where a walk begins and where it ends."""
+    return walk[0].router, walk[-1].neighbor
+
+
+def ways_of(database: Database, pair: PairReply, line: str) -> list[list[Link]]:
+    """The links of both ways of a pair, which have the same ends."""
+    for both in itertools.product(*(walks_of(database, way, line) for way in pair.ways)):
+        if len({ends_of(walk) for walk in both}) == 1:
+            return list(both)
+    raise ValueError(f"the network has no such pair: {line}")
+
+
+def shared_ends(database: Database, key: Key, line: str) -> tuple[str, ...]:
+    """Both ends of the link that each way has, or the router that each way passes."""
+    if not key:
+        raise ValueError(f"no route in the reply: {line}")
+    links = [link for link in database.links() if key in (link.key, link.key[:1])]
+    if not links:
+        raise ValueError(f"the network has no such {'link' if len(key) == 2 else 'router'}: {line}")
+    return (links[0].router, links[0].neighbor)[:len(key)]
+
+
+def styles_of(counts: list[int]) -> list[list[Style]]:
+    """The styles of replies that have so many routes each. Pairs take theirs first, so that both ways have one color."""
+    left, found = list(ROUTE_STYLES), [list[Style]() for _ in counts]
+    for at in sorted(range(len(counts)), key=lambda at: -counts[at]):
+        found[at] = [style for style in left if style[0] == left[0][0]] if counts[at] == 2 else left[:1]
+        left = [style for style in left if style not in found[at]]
+    return found
+
+
+def read_routes(asked: argparse.Namespace, database: Database) -> tuple[list[Route], list[Shared]]:
+    """The routes of the replies that are asked for, and what there is in place of pairs. In the lines of a book these are the last routes
+    that it placed."""
     with open(asked.replies) as lines:
-        replies = {line.split()[1]: line.strip() for line in lines if re.match(r"ask \d|place \d+ v\d+ route ", line)}
+        replies = {line.split()[1]: line.strip() for line in lines if re.match(r"(?:ask|except|pair) \d|place \d+ v\d+ route ", line)}
     absent = [ask for ask in asked.ask if ask not in replies]
     if absent:
         raise ValueError(f"no reply to {absent[0]}")
-    return [Route(" ".join(replies[ask].split()[:3]), walk_of(database, replies[ask])) for ask in asked.ask]
+    wanted = [(replies[ask], PairReply.parse(replies[ask])) for ask in asked.ask]
+    counts = [len(pair.ways) if pair and pair.ways else 1 for _, pair in wanted]
+    if sum(counts) > len(ROUTE_STYLES):
+        raise ValueError(f"at most {len(ROUTE_STYLES)} routes")
+    routes, shared = list[Route](), list[Shared]()
+    for (line, pair), styles in zip(wanted, styles_of(counts)):
+        begun = " ".join(line.split()[:3])
+        if not pair:
+            routes.append(Route(begun, walks_of(database, Reply.parse(line), line)[0], styles[0]))
+        elif pair.ways:
+            for name, walk, style in zip(("first", "second"), ways_of(database, pair, line), styles):
+                routes.append(Route(f"{begun}, {name} way", walk, style))
+        else:
+            shared.append(Shared(begun, pair.each, shared_ends(database, pair.each, line), styles[0]))
+    return routes, shared
 
 
 def read_overbooked(path: str, database: Database) -> Full:
@@ -154,7 +213,8 @@ def circuits(lines: list[Line], curves: list[Curve], names: Names, priority: int
 
 def route_lines(routes: list[Route], at: dict[Key, Curve], sheet: Sheet, names: Names) -> Iterator[str]:
     """Each route as one line beside its circuits, with an arrow on each of its links. Links that aren't drawn are left out."""
-    for route, (color, dash), lane in zip(routes, ROUTE_STYLES, lanes_of(routes)):
+    for route, lane in zip(routes, lanes_of(routes)):
+        color, dash = route.style
         ways, path, is_on = [], "", False
         for link in route.links:
             if link.key in at:
@@ -174,22 +234,38 @@ def route_lines(routes: list[Route], at: dict[Key, Curve], sheet: Sheet, names: 
 
 def route_text(route: Route, names: Names) -> str:
     cost, count = sum(link.metric for link in route.links), len(route.links)
-    one, other = route.links[0].router, route.links[-1].neighbor
+    one, other = ends_of(route.links)
     return (f"{route.reply}: {names.get(one, one)} to {names.get(other, other)}, "
             f"cost {cost:,}, {count} {'link' if count == 1 else 'links'}")
 
 
-def marks_of_routes(routes: list[Route], places: Places) -> tuple[list[str], dict[str, float]]:
-    """The rings and diamonds at the ends of routes, and the radius of what is at each router."""
+def shared_text(it: Shared, names: Names) -> str:
+    has = "passes" if len(it.ends) == 1 else "has the circuit"
+    return f"{it.reply}: no pair, each way {has} {' – '.join(names.get(router, router) for router in it.ends)}"
+
+
+def shared_circuits(shared: list[Shared], at: dict[Key, Curve], names: Names) -> Iterator[str]:
+    """Two lines along each circuit that each way of a pair has, which leave its own line and its routes free."""
+    for it in shared:
+        if it.key in at:
+            path, (wide, white) = at[it.key].path(), shapes.two_lines(*it.style)
+            yield shapes.line("each", path, wide, shared_text(it, names))
+            yield shapes.line("under", path, white)
+
+
+def marks_of_routes(routes: list[Route], shared: list[Shared], places: Places) -> tuple[list[str], dict[str, float]]:
+    """The rings and diamonds at the ends of routes, the squares at routers that each way passes, and the radius of what is at each
+    router."""
     radii: dict[str, float] = dict.fromkeys(places, shapes.NUMBERED)
     shown = []
-    for route, (color, dash) in zip(routes, ROUTE_STYLES):
-        for router, shape, inside in ((route.links[0].router, shapes.ring, 10), (route.links[-1].neighbor, shapes.diamond, 14)):
-            if router not in places:
-                continue
-            radius = max(inside, radii[router] + 4 if radii[router] > shapes.NUMBERED else 0)
-            shown.append(shape(*places[router], radius, color, dash))
-            radii[router] = radius + 1
+    marks = [(router, shape, inside, route.style) for route in routes
+             for router, shape, inside in zip(ends_of(route.links), (shapes.ring, shapes.diamond), (10, 14))]
+    for router, shape, inside, style in [*marks, *((it.ends[0], shapes.square, 10, it.style) for it in shared if len(it.ends) == 1)]:
+        if router not in places:
+            continue
+        radius = max(inside, radii[router] + 4 if radii[router] > shapes.NUMBERED else 0)
+        shown.append(shape(*places[router], radius, *style))
+        radii[router] = radius + 1
     return shown, radii
 
 
@@ -209,35 +285,43 @@ def notes_of_circuits(lines: list[Line], priority: int, opacity: str, thinner: f
 def notes_of_routes(routes: list[Route], names: Names) -> list[Note]:
     """The legend of routes."""
     notes: list[Note] = [(shapes.sample(f"stroke:{color};stroke-dasharray:{dash or 'none'};stroke-width:3"), route_text(route, names))
-                         for route, (color, dash) in zip(routes, ROUTE_STYLES)]
+                         for route in routes for color, dash in (route.style,)]
     ends: list[Note] = [(lambda x, y: shapes.ring(x, y, 9, RED), "ring: where a route begins"),
                         (lambda x, y: shapes.diamond(x, y, 11, RED), "diamond: where it ends")]
     return notes + ends if routes else []
 
 
-def network_picture(title: str, database: Database, places: Places, names: Names, routes: list[Route], priority: int,
-                    overbooked: Full) -> Iterable[str]:
+def notes_of_shared(shared: list[Shared], names: Names) -> list[Note]:
+    """The legend of what each way of a pair has."""
+    return [((shapes.square_sample if len(it.ends) == 1 else shapes.two_lines_sample)(*it.style), shared_text(it, names))
+            for it in shared]
+
+
+def network_picture(title: str, database: Database, places: Places, names: Names, routes: list[Route], shared: list[Shared],
+                    priority: int, overbooked: Full) -> Iterable[str]:
     """The lines of the whole picture, which has the links between routers that have places."""
     places, wide, high = fit(places)
     thinner, faint = (1.0, 0.5) if len(places) < shapes.MANY else (SMALLER, 0.3)
     lines = [line for line in lines_of(database) if line[0].router in places and line[0].neighbor in places]
-    marks, sheet, opacity = database.marks(), Sheet(wide, high), f";stroke-opacity:{faint}" if routes else ""
+    marks, sheet, opacity = database.marks(), Sheet(wide, high), f";stroke-opacity:{faint}" if routes or shared else ""
     curves, at = shapes.curves([(link.router, link.neighbor) for link, _ in lines], places), {}
     for (link, back), line in zip(lines, curves):
         at[link.key] = line
         if back:
             at[back.key] = line.reversed()
-    drawn = [*circuits(lines, curves, names, priority, overbooked, opacity, thinner), *route_lines(routes, at, sheet, names)]
-    ends, radii = marks_of_routes(routes, places)
-    first = {router for route in routes for router in (route.links[0].router, route.links[-1].neighbor) if router in places}
-    shapes.place_names(sheet, places, names, radii, curves, first)
+    drawn = [*shared_circuits(shared, at, names), *circuits(lines, curves, names, priority, overbooked, opacity, thinner),
+             *route_lines(routes, at, sheet, names)]
+    ends, radii = marks_of_routes(routes, shared, places)
+    first = {router for ends in (*(ends_of(route.links) for route in routes), *(it.ends for it in shared)) for router in ends}
+    shapes.place_names(sheet, places, names, radii, curves, first.intersection(places))
     routers, unnamed = shapes.routers(sheet, places, names, marks)
     notes = notes_of_circuits(lines, priority, opacity, thinner)
     if overbooked:
         notes.append((shapes.sample(shapes.BAND), "overbooked: more is asked of it than it has unreserved"))
     if not marks.isdisjoint(places):
         notes.append((lambda x, y: shapes.router(x, y, True), "no transit: no route passes through it"))
-    return picture(title, wide, high, [*drawn, *ends, *routers], [*notes, *notes_of_routes(routes, names), *unnamed])
+    notes += notes_of_routes(routes, names) + notes_of_shared(shared, names)
+    return picture(title, wide, high, [*drawn, *ends, *routers], [*notes, *unnamed])
 
 
 def options(words: list[str] | None) -> argparse.Namespace:
@@ -246,7 +330,7 @@ def options(words: list[str] | None) -> argparse.Namespace:
     asked.add_argument("--version", type=number("version", 0), metavar="N", help="the network after batch N, by default the last")
     asked.add_argument("--replies", metavar="FILE", help="reply lines of routed, or the lines of a book")
     asked.add_argument("--ask", action="append", default=[], metavar="ID",
-                       help=f"draw the route of this reply; at most {len(ROUTE_STYLES)} times")
+                       help=f"draw the route of this reply, or both ways of this pair; at most {len(ROUTE_STYLES)} routes")
     asked.add_argument("--overbooked", metavar="FILE",
                        help="lines of a sweep: mark the links that it says are overbooked while nothing fails")
     positions.add_options(asked)
@@ -270,14 +354,14 @@ def main(words: list[str] | None = None) -> int:
         if told := not_rows(data):
             raise Refused(told)
         database = read_database(data, asked.version, has_asks=True)
-        routes = read_routes(asked, database) if asked.replies else []
+        routes, shared = read_routes(asked, database) if asked.replies else ([], [])
         overbooked = read_overbooked(asked.overbooked, database) if asked.overbooked else {}
         pairs = [(link.router, link.neighbor) for link in database.links()]
         part = positions.part_of(asked, pairs)
         if part is not None:
             pairs = [pair for pair in pairs if part.issuperset(pair)]
         places, names = positions.positions(asked, pairs, "draw")
-        print(*network_picture(asked.title, database, places, names, routes, asked.priority, overbooked), sep="\n")
+        print(*network_picture(asked.title, database, places, names, routes, shared, asked.priority, overbooked), sep="\n")
     except NamesRefused as fault:
         return failed("draw", fault)
     except Refused as fault:

@@ -16,6 +16,7 @@ BENDS = [0, 20, -20, 34, -34, 50, -50]  # how far a circuit may go aside, so tha
 CLEAR = 13  # pixels from a circuit to the middle of a third router
 ROUTER, NUMBERED = 6, 9  # radius of a router, and of one that has a number in place of a name; all names keep off the larger one
 BAND = "stroke:#ffc46b;stroke-width:15"  # under what is overbooked
+APART = 17  # pixels between two lines along a circuit
 INK = 1.5  # what a name pays for each point of a circuit under it
 MOST_NUMBERED = 60  # routers whose names have no room, above which they have no numbers
 MANY = 200  # routers, from which on they and their circuits are drawn smaller
@@ -129,6 +130,26 @@ def diamond(x: float, y: float, radius: float, color: str, dash: str = "") -> st
     """Where a route ends."""
     return (f'<path class="to" d="M{x:.1f} {y - radius:.1f}l{radius} {radius}l-{radius} {radius}l-{radius} -{radius}z" '
             f'style="stroke:{color};stroke-width:2.5;stroke-dasharray:{dash or "none"}"/>')
+
+
+def square(x: float, y: float, radius: float, color: str, dash: str = "") -> str:
+    """What each way of a pair passes."""
+    return (f'<path class="through" d="M{x - radius:.1f} {y - radius:.1f}h{2 * radius}v{2 * radius}h-{2 * radius}z" '
+            f'style="stroke:{color};stroke-width:2.5;stroke-dasharray:{dash or "none"}"/>')
+
+
+def square_sample(color: str, dash: str) -> Callable[[float, float], str]:
+    return lambda x, y: square(x, y, 9, color, dash)
+
+
+def two_lines(color: str, dash: str, far: int = APART) -> tuple[str, str]:
+    """The styles of two lines along a circuit, so far apart: of one line as wide as both, and of a white one on it."""
+    return f"stroke:{color};stroke-width:{far + 5};stroke-dasharray:{dash or 'none'}", f"stroke:#fff;stroke-width:{far}"
+
+
+def two_lines_sample(color: str, dash: str) -> Callable[[float, float], str]:
+    wide, white = map(sample, two_lines(color, dash, 8))
+    return lambda x, y: wide(x, y) + white(x, y)
 
 
 def sample(style: str) -> Callable[[float, float], str]:

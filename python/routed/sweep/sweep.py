@@ -1,10 +1,11 @@
 """Takes circuits or routers out of a network in turn, and says what that does to a file of requests or to the tunnels of a book.
 
-    routed-tools sweep JOURNAL REQUESTS [--fail pairs] [--capacity FILE] [--names FILE] [--json | --csv]
+    routed-tools sweep JOURNAL REQUESTS [--fail pairs] [--pairs] [--capacity FILE] [--names FILE] [--json | --csv]
     routed-tools sweep --book BOOK .. [--fail pairs] [--capacity FILE] [--names FILE] [--json | --csv]
 
 It lists the requests that lose their route or get a costlier one, and the links that become overbooked, or more overbooked than
-before. `routed batch` answers all requests once. In a scenario `routed solve` answers those that the failure can change.
+before. `routed batch` answers all requests once. In a scenario `routed solve` answers those that the failure can change. With
+--pairs the lines before the scenarios say which routes have a partner, a second way that shares no circuit, or no router.
 
 With --book it lists the tunnels that lose their route, which of them find another one when they are placed again one after the
 other, and the links that are full then. Only failures that touch a tunnel are tried. Each scenario is a run of `routed book`.
@@ -35,6 +36,7 @@ from ..program import add_option, failed, find
 from .capacities import Utilisation, capacities
 from .failures import Network, Outcomes, circuits_of, routers_of
 from .machines import Scenario, Scenarios, over_dask, over_ssh
+from .partners import partner_lines
 from .planned import Planned
 from .progress import Progress
 from .ranking import Ranking
@@ -84,7 +86,7 @@ def sweep(asked: argparse.Namespace, given: Network | Planned, used: Utilisation
         tried = (some for some in itertools.combinations(parts, size) if any(map(given.touches, some)))
         return itertools.islice(enumerate(tried, 1), places.start, places.stop)
 
-    yield "\n".join(given.before())
+    yield "\n".join([*given.before(), *(partner_lines(given) if asked.pairs and isinstance(given, Network) else ())])
     if isinstance(given, Planned):
         outcomes = over_jobs(asked.jobs, given, scenarios)
     elif asked.dask:
@@ -153,6 +155,8 @@ def options(words: list[str] | None) -> argparse.Namespace:
     form.add_argument("--csv", action="store_true", help="print a table of CSV with a header: a row for each effect of a failure")
     asked.add_argument("--fail", choices=["circuits", "routers", "pairs"], default="circuits",
                        help="what is out in a scenario: a circuit, a router or two circuits; by default a circuit")
+    asked.add_argument("--pairs", action="store_true",
+                       help="say of each route whether there are two ways that share no circuit, or no router, and what there is in common")
     asked.add_argument("--workers", type=count, metavar="N", help="threads that answer while nothing is out, by default 1")
     asked.add_argument("--jobs", type=count, metavar="N", help="scenarios at once, each in a process, by default 1")
     asked.add_argument("--dask", type=address, metavar="ADDRESS", help="scenarios on the workers of this scheduler of Dask's distributed")
@@ -168,6 +172,8 @@ def options(words: list[str] | None) -> argparse.Namespace:
         asked.error("with --dask there is neither --ssh nor --jobs: the scheduler's workers say how many scenarios are worked on at once")
     if given.book and (given.journal or given.workers or given.dask or given.ssh):
         asked.error("a book is swept on this machine: with --book there is no JOURNAL, and neither --workers, --dask nor --ssh")
+    if given.book and given.pairs:
+        asked.error("pairs are asked for by requests: with --book there is no --pairs")
     if not given.book and given.requests is None:
         asked.error(f"the following arguments are required: {'requests' if given.journal else 'journal, requests'}, or --book")
     if given.part and (given.book or given.capacity or given.json or given.csv):

@@ -77,6 +77,8 @@ class Facts:
                 found["counts"] |= record
             elif what == "out":
                 found["out"].append({"kind": thing, **record})
+            elif what == "partners":
+                found[what] = record
             else:
                 found.setdefault(kind.replace(" ", "_"), []).append(record)
         return found
@@ -107,14 +109,24 @@ def in_csv(chunks: Iterable[str], facts: Facts) -> Iterator[str]:
         out = ""
         for line in chunk.split("\n"):
             kind, record = facts.read(line)
-            failed = " ".join(facts.names.name_of(word) for word in line.partition(" out ")[2].split())
+            failed = " ".join(facts.names.name_of(word) for word in part_in(line).split())
             if kind.startswith("out "):
                 out += f" and {failed}" if out else failed
-            elif kind.partition(" ")[0] not in ("", "network", "most"):
-                if "router" in record:
+            elif kind.partition(" ")[0] not in ("", "network", "most", "partners"):
+                if "id" in record:
+                    record.pop("interface", None)  # of a circuit that each way has, which `out` names
+                elif "router" in record:
                     record |= {"from": record["name"], "to": record["neighbor_name"]}
                 record |= {"effect": kind, "out": failed or out}
                 yield row_of([record.get(column, "") for column in COLUMNS])
+
+
+def part_in(line: str) -> str:
+    """What is out, and of a route without a partner the circuit or the router without which it has no way."""
+    for begin, kind in ((" out ", ""), (" by ", "circuit "), (" through ", "router ")):
+        if begin in line:
+            return kind + line.partition(begin)[2]
+    return ""
 
 
 def row_of(fields: Sequence[object]) -> str:
