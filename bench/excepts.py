@@ -1,9 +1,8 @@
 """How long requests take that exclude links, for bench/run: each row by itself, from its writing to its line."""
 import statistics
-import subprocess
-import time
 
 from drawn import address, loading, requests
+from timing import row_by_row
 
 HUB = 200  # links of the router that is excluded
 
@@ -22,35 +21,17 @@ def with_hub(pairs):
     return pairs
 
 
-def microseconds(program, load, rows, words):
-    """What each of these rows takes `routed solve --except`, in microseconds by the clock."""
-    with subprocess.Popen([program, "solve", "--except", *words], stdin=subprocess.PIPE, stdout=subprocess.PIPE) as run:
-        run.stdin.write("".join(load).encode())
-        run.stdin.flush()
-        for row in load:
-            if row.startswith("end,"):
-                run.stdout.readline()
-        times = []
-        for row in rows:
-            start = time.perf_counter()
-            run.stdin.write(row.encode())
-            run.stdin.flush()
-            run.stdout.readline()
-            times.append((time.perf_counter() - start) * 1e6)
-        run.stdin.close()
-    return times
-
-
 def excepts(program, draw, pairs, routers, count, say):
     """Prints the medians: of requests, and of the same requests that exclude nothing, a circuit, and a router of 200 links."""
     pairs = with_hub(pairs)
     load, asks = loading(draw, pairs), requests(draw, routers, count, 0)
     kinds = {"nothing": lambda: "255.255.255.255/32i", "a circuit": lambda: f"{address(10, draw.randrange(len(pairs)))}/32i",
              f"a router of {HUB} links": lambda: f"{address(1, 0)}/32r"}
-    plain = statistics.median(microseconds(program, load, asks, ["--trees", "0"]))
+    words = [program, "solve", "--except"]
+    plain = statistics.median(row_by_row([*words, "--trees", "0"], load, asks)[0])
     say(f"{count} requests without trees: {plain:,.0f} microseconds in the median")
     for name, part in kinds.items():
         rows = [f"except{ask[3:].strip()},{part()}\n" for ask in asks]
-        median = statistics.median(microseconds(program, load, rows, []))
+        median = statistics.median(row_by_row(words, load, rows)[0])
         rest = f", {median - plain:,.0f} of them for the copy and the look at each link" if name == "nothing" else ""
         say(f"the same requests that exclude {name}: {median:,.0f} microseconds in the median{rest}")

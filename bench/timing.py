@@ -49,6 +49,27 @@ def run(program, lines):
         return timed([program, "solve"], source, 0)
 
 
+def row_by_row(words, load, rows):
+    """What each of these rows takes the program after the rows that load the network, in microseconds by the clock, and its line."""
+    with subprocess.Popen(words, stdin=subprocess.PIPE, stdout=subprocess.PIPE) as child:
+        child.stdin.write("".join(load).encode())
+        child.stdin.flush()
+        for row in load:
+            if row.startswith("end,"):
+                child.stdout.readline()
+        times, lines = [], []
+        for row in rows:
+            start = time.perf_counter()
+            child.stdin.write(row.encode())
+            child.stdin.flush()
+            lines.append(child.stdout.readline().decode())
+            times.append((time.perf_counter() - start) * 1e6)
+        child.stdin.close()
+    if child.returncode:
+        stop(words, child.returncode)
+    return times, lines
+
+
 def ran(words):
     """What a program prints of its times, by the first word of each line, and the seconds of processor time that it takes."""
     with tempfile.TemporaryFile("w+") as out:

@@ -13,6 +13,7 @@ BACK = f"put,2.2.2.2,10.0.12.2,1.1.1.1,10.0.12.1,10,0x1,{','.join(['0'] * 8)}\n"
 CIRCUIT = LINK + BACK + "end,1,2\n"
 ASK = f"ask,7,1.1.1.1,2.2.2.2,0,1000,{MASKS},\n"
 REPLY = "ask 7 v1 route cost=10 hops=1 again=no ero=000c140101080a000c022000\n"
+OPTIONS = {"except": "--except", "pair": "--pairs"}  # by the word of its rows, where a kind of question is asked for
 
 
 def status_of(lines):

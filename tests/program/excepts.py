@@ -7,13 +7,14 @@ import random
 import subprocess
 import tempfile
 
-from program.built import ASK, CIRCUIT, FREE, LINK, MASKS
+from program.built import ASK, CIRCUIT, FREE, LINK, MASKS, OPTIONS
 from reference import runs
 from reference.changes import circuits, mark_rows, mixed, row_of
 
 NETWORKS = 500  # of 20 rows each
 FULL = 200  # rows at full size
 AUDITED = 150  # networks whose lines are audited
+KINDS = ("except",)
 EXCEPT = ASK.replace("ask,7", "except,7").strip()
 NONE = "except 7 v1 none\n"
 ROUTE = "except 7 v1 route cost=10 hops=1 again=no ero=000c140101080a000c022000\n"
@@ -43,14 +44,14 @@ def by_hand(program, checks):
         wanted = "version 1\n" + ASK_LINE + line
         status = 2 if "refused" in line else 0
         checks.same(f"except {field[:40]!r}", program.run(["solve", "--except"], rows), (status, wanted.encode(), b""))
-        checks.same(f"except {field[:40]!r} by the reference", runs.solve(rows, True), (status, wanted.splitlines()))
+        checks.same(f"except {field[:40]!r} by the reference", runs.solve(rows, KINDS), (status, wanted.splitlines()))
         checks.same(f"except {field[:40]!r}, not asked for", program.solve(rows),
                     (2, f"version 1\n{ASK_LINE}row 5 refused: kind\n".encode(), b""))
     for row, line in ROWS.items():
         rows = CIRCUIT + ASK + row + "\n"
         wanted = f"version 1\n{ASK_LINE}{line}\n"
         checks.same(f"the row {row[:50]!r}", program.run(["solve", "--except"], rows)[1:], (wanted.encode(), b""))
-        checks.same(f"the row {row[:50]!r} by the reference", runs.solve(rows, True)[1], wanted.splitlines())
+        checks.same(f"the row {row[:50]!r} by the reference", runs.solve(rows, KINDS)[1], wanted.splitlines())
     with tempfile.TemporaryDirectory() as room:
         served(program, checks, room)
 
@@ -139,11 +140,11 @@ def drawn(program, checks):
         rows = drawn_rows(random.Random(seed), seed)
 
         def right(some):
-            status, lines = runs.solve("".join(some), True)
+            status, lines = runs.solve("".join(some), KINDS)
             return status, "".join(f"{line}\n" for line in lines).encode(), b""
 
         checks.stream(f"except rows on drawn network {seed}", rows, lambda some: program.run(["solve", "--except"], "".join(some)), right)
-        lines = [line.partition(" ")[2] for line in runs.solve("".join(rows), True)[1] if line[:4] in ("exce", "ask ")]
+        lines = [line.partition(" ")[2] for line in runs.solve("".join(rows), KINDS)[1] if line[:4] in ("exce", "ask ")]
         asked += len(lines) // 2
         told += sum(a != b for a, b in zip(lines[::2], lines[1::2]))
     checks.true("drawn rows with exclusions", asked == 20 * NETWORKS and told > asked // 6, (asked, told))
@@ -189,7 +190,7 @@ def full_rows():
 def full(program, checks):
     """200 rows at 1,024 routers and 16,384 links, with hops, marks and one-way links."""
     stream = "".join(full_rows())
-    status, lines = runs.solve(stream, True)
+    status, lines = runs.solve(stream, KINDS)
     found = program.run(["solve", "--except"], stream)
     checks.same("except rows at full size", found, (status, "".join(f"{line}\n" for line in lines).encode(), b""))
     routes = sum(" route " in line for line in lines)
@@ -212,7 +213,7 @@ def except_of(name, field):
 
 BOTH = ask_of(7) + except_of(8, AVOIDS) + except_of(9, KEEPS)
 RIGHT = f"ask 7 v1 {ROUTED}\nexcept 8 v1 none\nexcept 9 v1 {ROUTED}\n"
-OTHER = {"ask": "except", "except": "ask"}
+OTHER = {"ask": "except", "except": "ask", "pair": "ask"}
 LEFT = "".join(f"request {name} unanswered\n" for name in (7, 8, 9))
 UNREAD = ["except", "except ", "except 8", "except 8 ", "except 8 v", "except 8 v1", "except 8 v1\t", "except 08 v1 none",
           "except 8 v01 none", "except 8 1 none", "except 8 V1 none", "except  8 v1 none", "except 8  v1 none", "except\t8 v1 none",
@@ -256,27 +257,28 @@ REFUSED = {
 
 
 class Audits:
-    """What audits write, with --except where nothing else is said: by the program, and by the reference."""
+    """What audits of questions of these kinds write: by the program, and by the reference."""
 
-    def __init__(self, program, checks):
-        self.program, self.checks = program, checks
+    def __init__(self, program, checks, kinds=KINDS):
+        self.program, self.checks, self.kinds = program, checks, kinds
+        self.words = [OPTIONS[kind] for kind in kinds]
 
     def says(self, name, lines, requests, replies, journal=CIRCUIT, asked=True):
         """These lines are written, and nothing else."""
-        status, words = 0 if lines.endswith(" faults=0\n") else 2, ["--except"] * asked
-        found = self.program.audit(journal, requests, replies, *words)
+        status = 0 if lines.endswith(" faults=0\n") else 2
+        found = self.program.audit(journal, requests, replies, *self.words * asked)
         self.checks.same(f"audit: {name}", found, (status, lines.encode(), b""))
-        found = runs.audit(journal, requests, replies, asked)
+        found = runs.audit(journal, requests, replies, self.kinds * asked)
         self.checks.same(f"audit: {name}, by the reference", found, (status, lines.splitlines()))
 
     def is_right(self, name, journal, requests, replies):
         """The lines of the reference are written. The result is those of all the replies."""
         def wanted(some):
-            status, lines = runs.audit(journal, requests, "".join(some), True)
+            status, lines = runs.audit(journal, requests, "".join(some), self.kinds)
             return status, "".join(f"{line}\n" for line in lines).encode("latin-1"), b""
 
         def found(some):
-            return self.program.audit(journal, requests, "".join(some).encode("latin-1"), "--except")
+            return self.program.audit(journal, requests, "".join(some).encode("latin-1"), *self.words)
 
         self.checks.stream(f"audit: {name}", replies, found, wanted)
         return wanted(replies)[1].decode().splitlines()
@@ -302,7 +304,7 @@ def audited(program, checks):
     judged_by_hand(audits)
     refused_by_hand(audits)
     told_why(audits)
-    judged_as_drawn(audits)
+    judged_as_drawn(audits, "excepts", drawn_rows, AUDITED)
     judged_at_full_size(audits)
 
 
@@ -364,41 +366,45 @@ def told_why(audits):
             audits.checks.same(f"audit: not explained by {said!r}", (plain[0], plain[2]), (0 if is_good else 2, b""))
 
 
-def judged_as_drawn(audits):
-    """What `solve --except` writes over drawn networks is good. Lines that a seed spoils get the faults that the reference finds."""
+def judged_as_drawn(audits, part, rows_of, networks):
+    """What `solve` writes over drawn networks is good. Lines that a seed spoils get the faults that the reference finds."""
     judged, faults = 0, collections.Counter()
-    for seed in range(AUDITED):
+    for seed in range(networks):
         draw = random.Random(f"audits {seed}")
-        rows = drawn_rows(draw, seed)
-        asked = [row for row in rows if row.startswith(("ask,", "except,"))]
+        rows = rows_of(draw, seed)
+        asked = [row for row in rows if is_asked(row)]
         rows = named_anew(draw, [*draw.sample(asked, 4), *rows])  # the first four at version 0
-        journal = "".join(row for row in rows if not row.startswith(("ask,", "except,")))
-        asked = [row for row in rows if row.startswith(("ask,", "except,"))]
-        _, out, _ = audits.program.run(["solve", "--except"], "".join(rows))
+        journal = "".join(row for row in rows if not is_asked(row))
+        asked = [row for row in rows if is_asked(row)]
+        _, out, _ = audits.program.run(["solve", *audits.words], "".join(rows))
         lines = out.decode().splitlines(keepends=True)
         draw.shuffle(asked)
         draw.shuffle(lines)
-        audits.says(f"drawn network {seed}", f"good={len(asked)} faults=0\n", "".join(asked), "".join(lines), journal)
+        audits.says(f"{part}, drawn network {seed}", f"good={len(asked)} faults=0\n", "".join(asked), "".join(lines), journal)
         lines = spoiled(draw, lines)
         if seed % 3 == 0:
             asked.pop()
         judged += len(asked) + len(lines)
-        for line in audits.is_right(f"drawn network {seed}, spoiled", journal, "".join(asked), lines):
+        for line in audits.is_right(f"{part}, drawn network {seed}, spoiled", journal, "".join(asked), lines):
             faults[line.split(" ")[-1]] += 1
     wanted = ("unread", "foreign", "doubled", "no-version", "altered", "unanswered")
-    audits.checks.true("drawn lines with each fault", min(faults[fault] for fault in wanted) > AUDITED // 8, faults)
-    print(f"excepts: {judged:,} lines of both kinds are audited, {sum(faults[fault] for fault in wanted):,} of them with a fault")
+    audits.checks.true(f"{part}, drawn lines with each fault", min(faults[fault] for fault in wanted) > networks // 8, faults)
+    print(f"{part}: {judged:,} lines are audited, {sum(faults[fault] for fault in wanted):,} of them with a fault")
+
+
+def is_asked(row):
+    return row.partition(",")[0] in OTHER
 
 
 def named_anew(draw, rows):
     """Each row that asks has an id of its own. Two ids may have the same digits in front."""
     names = iter(draw.sample([*range(90), *range(10 ** 19, 10 ** 19 + 90)], 180))
     texts = (row.split(",", 2) for row in rows)
-    return [f"{word},{next(names)},{rest}" if word in ("ask", "except") else ",".join([word, name, rest]) for word, name, rest in texts]
+    return [f"{word},{next(names)},{rest}" if word in OTHER else ",".join([word, name, rest]) for word, name, rest in texts]
 
 
 def spoiled(draw, lines):
-    """Some of the lines with a byte changed, of another version or with the word of the other kind, and some that are lost or doubled."""
+    """Some of the lines with a byte changed, of another version or with the word of another kind, and some that are lost or doubled."""
     lines = list(lines)
     for at in draw.sample(range(len(lines)), 14):
         line = lines[at]

@@ -58,15 +58,29 @@ class Solve:
     """`solve` on Abilene."""
 
     def __init__(self, program):
-        self.words = [program.path, "solve", "--explain"]
+        self.words, self.rows = [program.path, "solve", "--explain"], ABILENE
         rows = text_of(ABILENE).splitlines(keepends=True)
         asks = [row for row in rows if row.startswith("ask,")]
         self.lines = lines_of(Versions("".join(row for row in rows if row not in asks), asks))
 
     def run(self, refuser, number, flags):
-        ran = refuser.run(self.words, flags[0], number, *flags[1:], stdin=ABILENE)
+        ran = refuser.run(self.words, flags[0], number, *flags[1:], stdin=self.rows)
         whole = (ran.status, ran.out, ran.err) == (0, self.lines, b"")
         return ran, whole, whole or is_stopped(ran, flags) and self.lines.startswith(ran.out)
+
+
+class Pairs(Solve):
+    """`solve --pairs` on Abilene's network, with requests for pairs of both kinds."""
+
+    def __init__(self, program, room):
+        self.words, self.rows = [program.path, "solve", "--pairs", "--explain"], os.path.join(room, "pairs")
+        rows = text_of(ABILENE).splitlines()
+        asks = [row.split(",") for row in rows if row.startswith("ask,")]
+        pairs = [",".join(["pair", *fields[1:9], kind]) for fields in asks[:2] for kind in ("circuits", "routers")]
+        text = "".join(f"{row}\n" for row in [row for row in rows if not row.startswith("ask,")] + pairs)
+        with open(self.rows, "w", encoding="ascii") as file:
+            file.write(text)
+        self.lines = "".join(f"{line}\n" for line in runs.solve(text, ("pair",))[1]).encode()
 
 
 class Batch:
@@ -139,7 +153,7 @@ class Audit:
                 file.write(text)
         self.words = [program.path, "audit", *["--except"] * questions, "--journal", UPDATES, "--requests", paths[0], "--replies", paths[1],
                       "--explain"]
-        self.status, lines = runs.audit(updates, requests, replies, questions)
+        self.status, lines = runs.audit(updates, requests, replies, ("except",) * questions)
         self.lines = "".join(f"{line}\n" for line in lines).encode()
 
     def run(self, refuser, number, flags):
@@ -244,8 +258,8 @@ def refused(program, checks):
         return
     refuser, tried, start = Refuser(), Counter(), time.monotonic()
     room = refuser.room.name
-    for command in [Solve(program), Batch(program), Live(program), Audit(program, room), Questions(program, room), Snapshot(program),
-                    Serve(program)]:
+    for command in [Solve(program), Pairs(program, room), Batch(program), Live(program), Audit(program, room), Questions(program, room),
+                    Snapshot(program), Serve(program)]:
         for flags in REFUSALS:
             def judge(number):
                 ran, is_whole, is_right = command.run(refuser, number, flags)

@@ -9,7 +9,7 @@ import time
 ROUTERS, BATCHES = 12, 60
 CLIENTS = 64  # the most of one run
 MOMENT, PATIENCE = 0.01, 60  # seconds: between batches and before a kill at most, and that a line is awaited
-AT = re.compile(r"ask \d+ v(\d+) ")
+AT = re.compile(r"(?:ask|except|pair) \d+ v(\d+) ")
 
 
 def has_come(file, seconds):

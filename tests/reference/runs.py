@@ -4,35 +4,36 @@ Each gives its status and its lines. Small and slow on purpose; nothing in it is
 """
 import re
 
-from reference import excepts
+from reference import excepts, pairs
 from reference.formats import DECIMAL, Network, Refused, address_text, records, row
 
 MOST_ROWS = 1_000_000  # of a stream
 MOST_VERSIONS = 1_000_000
+QUESTIONS = {"except": excepts, "pair": pairs}  # by the word of their rows; read only where their kind is asked for
 
 
-def row_or_question(fields, has_questions):
-    """The kind of a row, and what it says. `except` rows are read only where questions are asked for."""
-    if has_questions and fields[0] == "except":
-        return "except", excepts.question(fields)
+def row_or_question(fields, kinds):
+    """The kind of a row, and what it says. Of questions those of the given kinds are read."""
+    if fields[0] in kinds:
+        return fields[0], QUESTIONS[fields[0]].question(fields)
     return row(fields)
 
 
-def solve(rows, has_questions=False):
+def solve(rows, kinds=()):
     network, version, changes, lines, refused = Network(), 0, [], [], False
     for place, fields in enumerate(records(rows), 1):
         if place > MOST_ROWS:
             return 2, [*lines, "too many rows"]
         try:
-            kind, content = row_or_question(fields, has_questions)
+            kind, content = row_or_question(fields, kinds)
         except Refused as words:
             lines.append(f"row {place} refused: {words}")
             refused = True
             continue
         if kind == "ask":
             lines.append(network.answer(version, content))
-        elif kind == "except":
-            lines.append(excepts.answer(network, version, content))
+        elif kind in kinds:
+            lines.append(QUESTIONS[kind].answer(network, version, content))
         elif kind != "end":
             changes.append((kind, content))
         else:
@@ -89,17 +90,16 @@ def whole_batches(journal, accept_torn=False):
     return batches
 
 
-def requests_of(stream, has_questions=False):
-    """The requests of a stream, up to its first bad row. That of an `except` row has its parts, too."""
+def requests_of(stream, kinds=()):
+    """The requests of a stream, up to its first bad row. That of a question has its kind and what it says, too."""
     requests = []
     for place, fields in enumerate(records(stream), 1):
         if place > MOST_ROWS:
             raise Refused("too many rows")
         try:
-            kind, content = row_or_question(fields, has_questions)
-            if kind == "except":
-                request, parts = content
-                content = {**request, "except": parts}
+            kind, content = row_or_question(fields, kinds)
+            if kind in kinds:
+                content = {**content[0], "question": (kind, content)}
             elif kind != "ask":
                 raise Refused("kind")
         except Refused as words:
@@ -168,15 +168,15 @@ def batch_text(place, changes):
 # ---- the judgement of reply lines
 
 
-def audit(journal, requests, replies, has_questions=False):
-    """The journal, its batches, the requests, their ids and the replies are taken in this order. Lines of `except` rows are read only
-    where questions are asked for."""
+def audit(journal, requests, replies, kinds=()):
+    """The journal, its batches, the requests, their ids and the replies are taken in this order. Where no kinds of questions are given, no
+    line of a question is read."""
     try:
         networks, fault = publish(whole_batches(journal))
         if fault:
             raise Refused(fault)
         asked = {}
-        for place, request in enumerate(requests_of(requests, has_questions), 1):
+        for place, request in enumerate(requests_of(requests, kinds), 1):
             if request["id"] in asked:
                 raise Refused(f"request row {place} refused: same-id")
             asked[request["id"]] = request
@@ -192,7 +192,7 @@ def audit(journal, requests, replies, has_questions=False):
         if line.split(" ")[0] in ("version", "applied", "batch"):
             continue
         try:
-            if line.startswith("except ") and not has_questions:
+            if not kinds and line.partition(" ")[0] in QUESTIONS:
                 raise Refused("unread")
             judge(line, networks, asked, named)
             good += 1
@@ -204,7 +204,7 @@ def audit(journal, requests, replies, has_questions=False):
 
 def judge(line, networks, asked, named):
     """Refuses a reply line by the first fault that applies. `named` are the ids of the lines before it, and gets its id."""
-    found = re.match(rf"(?:ask|except) ({DECIMAL}) v({DECIMAL}) ", line)
+    found = re.match(rf"(?:ask|except|pair) ({DECIMAL}) v({DECIMAL}) ", line)
     if not found or len(found[1]) > 20 or int(found[1]) >= 2 ** 64 or len(found[2]) > 10 or int(found[2]) >= 2 ** 32:
         raise Refused("unread")
     name, version, doubled = int(found[1]), int(found[2]), int(found[1]) in named
@@ -215,8 +215,8 @@ def judge(line, networks, asked, named):
         raise Refused("doubled")
     if version >= len(networks):
         raise Refused("no-version")
-    parts = asked[name].get("except")
-    if parts and line != excepts.answer(networks[version], version, (asked[name], parts)):
+    kind, question = asked[name].get("question", (None, None))
+    if kind and line != QUESTIONS[kind].answer(networks[version], version, question):
         raise Refused("altered")
-    if not parts and line != networks[version].answer(version, asked[name]):
+    if not kind and line != networks[version].answer(version, asked[name]):
         raise Refused("altered")

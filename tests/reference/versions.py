@@ -27,7 +27,7 @@ class Versions:
     def are_right(self, lines):
         """Whether each line is the reply to its request at the version that it names; the requests come round again."""
         for at, line in enumerate(lines):
-            named = re.match(r"ask \d+ v(\d+) ", line)
+            named = re.match(r"\w+ \d+ v(\d+) ", line)
             if not named or int(named[1]) >= len(self.replies) or line != self.replies[int(named[1])][at % len(self.asks)]:
                 return False
         return True
