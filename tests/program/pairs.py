@@ -18,7 +18,8 @@ from reference.versions import Versions
 
 KINDS = ("pair",)
 BOTH_KINDS = ("except", "pair")
-TRIED = 1000  # networks on which all pairs of trails are tried
+TRIED = int(os.environ.get("TRIED", 1000))  # networks on which all pairs of trails are tried
+STREAM = 5000  # of them in one run
 NETWORKS = 500  # of 20 rows each
 FULL = 200  # rows at full size
 CLIENTS = 6
@@ -33,32 +34,62 @@ def pairs(program, checks):
 # ---- the reference, compared with all pairs of trails
 
 
-def small_network(draw):
-    """Up to six routers, with ties, parallel circuits, one-way links and marks, and some links without bandwidth."""
-    count, links, network = draw.randrange(2, 7), {}, Network()
-    top, batch = draw.choice([0, 1, 1, 3]), []
+def small_rows(draw):
+    """The rows of a network of up to six routers, with ties, parallel circuits, one-way links and marks. Some links have no bandwidth."""
+    count, links = draw.randrange(2, 7), {}
+    top, rows = draw.choice([0, 1, 1, 3]), []
     for near, far in changes.circuits(draw, links, count, 24, draw.randrange(1, 10), 0).items():
         free = ",".join([draw.choice(["0", "5", "5", "5", "5", "5"])] * 8)
-        batch.append(row(changes.row_of(near, far, f"{draw.randrange(top + 1)},0x0,{free}").split(",")))
-    batch += [row(text.split(",")) for text in changes.mark_rows(draw, count, draw.choice([0, 0, 1, 2]))]
-    return network.after(batch), count
+        rows.append(changes.row_of(near, far, f"{draw.randrange(top + 1)},0x0,{free}"))
+    return rows + changes.mark_rows(draw, count, draw.choice([0, 0, 1, 2])), count
 
 
-def tried(_, checks):
-    """The reference finds on small networks what trying all pairs of trails finds."""
-    draw, met, faults = random.Random(81), collections.Counter(), []
-    for number in range(TRIED):
-        network, count = small_network(draw)
-        head, tail = (address_number(f"10.0.0.{end}") for end in draw.sample(range(count), 2))
-        request = {"from": head, "to": tail, "setup": 0, "bandwidth": 5, "exclude_any": 0, "include_any": 0, "include_all": 0}
-        for kind in reference.KINDS if {head, tail} <= network.routers() else ():
+def undone(rows):
+    """The rows that take all of these away."""
+    fields = [text.split(",") for text in rows]
+    return [f"drop,{each[1]},{each[2]}" if each[0] == "put" else f"node,{each[1]},1" for each in fields]
+
+
+def tried_on(draw, count):
+    """Rows that load so many small networks, each in place of the one before, and ask for pairs of each kind in each; the lines of an
+    answer that all pairs of trails give, None for a request with too many trails; and where the reference gives another."""
+    asked, lines, faults, before, version = [], [], [], [], 0
+    for number in range(count):
+        rows, routers = small_rows(draw)
+        for batch_rows in (undone(before), rows):
+            if batch_rows:
+                version += 1
+                asked += [*batch_rows, f"end,{version},{len(batch_rows)}"]
+                lines.append(f"version {version}")
+        before, network = rows, Network().after([row(text.split(",")) for text in rows])
+        head, tail = (f"10.0.0.{end}" for end in draw.sample(range(routers), 2))
+        request = {"from": address_number(head), "to": address_number(tail), "setup": 0, "bandwidth": 5, "exclude_any": 0,
+                   "include_any": 0, "include_all": 0}
+        for kind in reference.KINDS if {request["from"], request["to"]} <= network.routers() else ():
             found, wanted = reference.outcome(network, request, kind), by_trails(network, request, kind)
-            met["pair" if isinstance(wanted, list) else str(wanted).partition(" 1")[0]] += 1
+            asked.append(f"pair,{number},{head},{tail},0,5,{MASKS},{kind}")
+            words = reference.pair_text(*wanted) if isinstance(wanted, list) else wanted
+            lines.append(words and f"pair {number} v{version} {words}")
             if wanted not in (None, found):
                 faults.append((number, kind, found, wanted))
-    checks.same("the reference, compared with all pairs of trails", faults[:2], [])
+    return asked, lines, faults
+
+
+def tried(program, checks):
+    """The program and the reference find on small networks what trying all pairs of trails finds."""
+    draw, met = random.Random(81), collections.Counter()
+    for at in range(0, TRIED, STREAM):
+        asked, lines, faults = tried_on(draw, min(STREAM, TRIED - at))
+        status, found, told = program.run(["solve", "--pairs"], "".join(f"{text}\n" for text in asked))
+        found = found.decode().splitlines()
+        checks.same("the reference, compared with all pairs of trails", faults[:2], [])
+        checks.same("the end of rows that are compared with all pairs of trails", (status, told, len(found)), (0, b"", len(lines)))
+        other = [pair for pair in zip(found, lines) if pair[1] not in (None, pair[0])]
+        checks.same("lines, compared with all pairs of trails", other[:2], [])
+        forms_of("".join(f"{line}\n" for line in lines if line and not line.startswith("version")).encode(), met)
+        met["too many trails"] += lines.count(None)
     checks.true("forms that were tried", all(met[form] > TRIED // 50 for form in FORMS - {"unknown-from", "unknown-to"}), met)
-    print(f"pairs: {met.total() - met['None']:,} requests were compared with all pairs of trails")
+    print(f"pairs: {met.total() - met['too many trails']:,} requests in {TRIED:,} networks were compared with all pairs of trails")
 
 
 # ---- rows by hand

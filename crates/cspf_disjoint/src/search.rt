@@ -300,6 +300,12 @@ impl<'a> Search<'a> {
         self.cross(state, distance)
     }
 
+    /// Forgets what the last search has found.
+    pub(crate) fn forget(&mut self) {
+        self.labels.fill(UNREACHED);
+        self.heap.clear();
+    }
+
     /// Searches from the state `start` to the state `goal`, and returns its distance. Returns `None`
     /// if the search doesn't reach `goal` by a distance of at most `most`.
     pub(crate) fn run(
@@ -308,9 +314,18 @@ impl<'a> Search<'a> {
         goal: usize,
         most: u64,
     ) -> Result<Option<u64>, AllocError> {
+        self.forget();
+        self.run_on(start, goal, most)
+    }
+
+    /// Like `run`, but passes through no state at which a search has looked since `forget`.
+    pub(crate) fn run_on(
+        &mut self,
+        start: usize,
+        goal: usize,
+        most: u64,
+    ) -> Result<Option<u64>, AllocError> {
         self.most = most;
-        self.labels.fill(UNREACHED);
-        self.heap.clear();
         self.offer(start, start, NO_ROW, 0)?;
         for _turn in 0..MOST_TURNS {
             let Some(Reverse((distance, state))) = self.heap.pop() else {

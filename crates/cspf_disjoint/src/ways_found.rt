@@ -32,7 +32,8 @@ fn is_tight(search: &Search<'_>, table: &Table, place: usize, at: usize) -> bool
 }
 
 /// Whether a way has the link `row` from the router `place` to the router `end`, after an exchange
-/// if need be. Then the link stays in the way.
+/// if need be. Then the link stays in the way. No search since `forget` has found an exchange for
+/// another link from this router, so no state at which such a search has looked leads to one.
 fn fix(search: &mut Search<'_>, row: usize, place: usize, end: usize) -> Result<bool, AllocError> {
     let is_used = value_or(&search.used, row, false);
     put(&mut search.used, row, true);
@@ -42,7 +43,7 @@ fn fix(search: &mut Search<'_>, row: usize, place: usize, end: usize) -> Result<
     }
     let start = search.arriving(end);
     let goal = search.leaving(place);
-    if search.run(start, goal, 0)?.is_some() {
+    if search.run_on(start, goal, 0)?.is_some() {
         search.exchange(start, goal);
         return Ok(true);
     }
@@ -58,11 +59,17 @@ fn next_row(search: &mut Search<'_>, table: &Table, place: usize) -> Result<usiz
         return Ok(NO_ROW);
     }
     let first = value_or(&search.firsts, place, 0);
+    let mut is_first = true;
     for at in 0..table.out_at(place).len() {
         let row = first.saturating_add(at);
         let end = usize::from(value_or(table.ends_at(place), at, 0));
         let is_free = !value_or(&search.fixed, row, true);
-        if is_free && (value_or(&search.used, row, false) || is_tight(search, table, place, at)) {
+        let is_used = value_or(&search.used, row, false);
+        if is_free && (is_used || is_tight(search, table, place, at)) {
+            if !is_used && is_first {
+                search.forget();
+                is_first = false;
+            }
             if fix(search, row, place, end)? {
                 return Ok(row);
             }
