@@ -151,7 +151,7 @@ alike_changes d e (c ∷ cs) alike =
 
 -- Let two databases differ only in attributes of their links. If a change removes a link that the
 -- first database has, the second database has a link at the same key.
-present_too : (d e : Database) (c : Change) → AreAlike d e → IsPresent d c → IsPresent e c
+pub present_too : (d e : Database) (c : Change) → AreAlike d e → IsPresent d c → IsPresent e c
 present_too d e (Put l) alike present = tt
 present_too d e (Node router transit) alike present = tt
 present_too d e (Remove from local) alike present =

@@ -5,23 +5,20 @@ use Rattle.std.proofs.Common.{◌≡◌, ℕ, ◌+◌, ◌<◌, ◌||◌, ◌&&�
 use Rattle.std.proofs.Math.Path.{fun_ext}
 use Rattle.std.specs.Ordering.{eq_by_cmp, is_lt}
 use Rattle.std.specs.Option.{option_map}
-use Rattle.std.specs.List.{list_any}
 use Rattle.std.specs.FinMap as map
 use Rattle.std.specs.FinMap.Entries.{below_all}
 use Rattle.std.proofs.lemmas.List.{at_drop_more, length-map}
 use Rattle.std.proofs.lemmas.List.Sums.{sum_by-remove, sum_by_push}
 use Rattle.cspf_model.specs.declared.link.Link.{Link}
 use Rattle.cspf_book.specs.declared.path.Passed.{Passed}
-use Rattle.cspf_model.specs.declared.batch.Change.{Change}
-use Rattle.cspf_model.specs.declared.batch.Change.TheVariants.{Put, Remove, Node}
 use Rattle.cspf_model.specs.Database.{Database, Key, key_of, key_cmp, link_at, AreAtTheirKeys}
-use Rattle.cspf_model.specs.Changes.{no_links, after_change, after_changes}
+use Rattle.cspf_model.specs.Changes.{no_links}
 use Rattle.cspf_model.proofs.Databases.Keys.{keys_total, keys_antisymmetric}
 use Rattle.cspf_model.proofs.Databases.OneChange.{same_database}
 use Rattle.cspf_book.specs.declared.placement.Placement.{Placement}
 use Rattle.cspf_book.specs.Placements.{ends_of_link, key_passed, has_key, bandwidth_on, counted}
 use Rattle.cspf_book.specs.Effective.{figures, with_free, effective_link, effective}
-use Rattle.cspf_book.specs.Alike.{AreAlike, IsCurrentAt, IsCurrentBut, IsCurrentButPut, puts_key}
+use Rattle.cspf_book.specs.Alike.{AreAlike, IsCurrentAt, IsCurrentBut}
 use Rattle.cspf_book.proofs.EffectiveLinks.{effective_at}
 use Rattle.cspf_book.proofs.KeyTests.{same_key_test}
 
@@ -126,7 +123,7 @@ counted-push placements p k off priority =
     omega (arith, sum_by_push (bandwidth_on k priority) placements p, bandwidth_on-none k priority p off)
 
 -- If two tests fail, their disjunction fails.
-neither_holds : (a b : Bool) → a ≡ false → b ≡ false → (a || b) ≡ false
+pub neither_holds : (a b : Bool) → a ≡ false → b ≡ false → (a || b) ≡ false
 neither_holds true b first second = first
 neither_holds false b first second = second
 
@@ -149,87 +146,6 @@ module _ (base : Database) (placements : List Placement) (old new : Database) (k
       → IsCurrentBut base placements new (drop (i + 1) links)
   current_step links i d within is current k off =
       current_there k (λ apart. current k (at_drop_more (λ ls. has_key ls k) links i d within ∙ neither_holds _ _ (ap (λ (j : Key). nat_eq j.0 k.0 && nat_eq j.1 k.1) is ∙ apart) off))
-
-  -- Let the change at index i set a link with the key `key` (`Put`). Let `old` agree with the
-  -- effective database, except at keys that the changes from index i on set. Then `new` agrees with
-  -- the effective database, except at keys that the changes from index i + 1 on set.
-  pub current_put : (changes : List Change) (i : ℕ) (d : Change) (l : Link) → i < length changes → get_or changes i d ≡ Put l → key_of l ≡ key
-      → IsCurrentButPut base placements old (drop i changes) → IsCurrentButPut base placements new (drop (i + 1) changes)
-  current_put changes i d l within is its current k off =
-      current_there k (λ apart.
-      current k
-      (at_drop_more (λ cs. list_any (puts_key k) cs) changes i d within
-      ∙ neither_holds _ _ (ap (puts_key k) is ∙ neither_holds _ _ (ap (λ (j : Key). nat_eq j.0 k.0 && nat_eq j.1 k.1) its ∙ apart) refl) off))
-
--- A change other than `Put` sets no link.
-pub puts_none : (c : Change) → ((l : Link) → c ≡ Put l → ⊥) → (k : Key) → puts_key k c ≡ false
-puts_none (Put l) other k = absurd (other l refl)
-puts_none (Remove from local) other k = refl
-puts_none (Node router transit) other k = refl
-
--- Let the change at index i set no link. Let `d` agree with the effective database, except at keys
--- that the changes from index i on set. Then `d` agrees with it, except at keys that the changes
--- from index i + 1 on set.
-pub current_past : (base : Database) (placements : List Placement) (d : Database) (changes : List Change) (i : ℕ) (c : Change) → i < length changes
-    → ((k : Key) → puts_key k (get_or changes i c) ≡ false) → IsCurrentButPut base placements d (drop i changes)
-    → IsCurrentButPut base placements d (drop (i + 1) changes)
-current_past base placements d changes i c within none current k off =
-    current k (at_drop_more (λ cs. list_any (puts_key k) cs) changes i c within ∙ neither_holds _ _ (none k) off)
-
--- Let the same change be made in the base and in a database, and let it set no link at a key. If
--- the database agreed with the effective database at this key before, it agrees afterwards, too.
-current_change : (base : Database) (placements : List Placement) (d : Database) (c : Change) (k : Key) → puts_key k c ≡ false
-    → IsCurrentAt base placements d k → IsCurrentAt (after_change base c) placements (after_change d c) k
-current_change base placements d (Put l) k off current =
-    map.get-insert keys_total d.links (key_of l) l k
-    ∙ ap (λ t. cond t (Some l) (link_at d k)) apart ∙ current
-    ∙ ap (λ t. option_map (effective_link placements) (cond t (Some l) (link_at base k))) (sym apart)
-    ∙ sym (ap (option_map (effective_link placements)) (map.get-insert keys_total base.links (key_of l) l k))
-  where
-    first_off : (a : Bool) → (a || false) ≡ false → a ≡ false
-    first_off true e = e
-    first_off false e = e
-
-    apart : eq_by_cmp key_cmp k (key_of l) ≡ false
-    apart = same_key_test k (key_of l) ∙ first_off _ off
-current_change base placements d (Remove from local) k off current =
-    map.get-remove keys_total d.links (from, local) k
-    ∙ ap (λ o. cond (eq_by_cmp key_cmp k (from, local)) None o) current
-    ∙ turned (eq_by_cmp key_cmp k (from, local)) (link_at base k)
-    ∙ sym (ap (option_map (effective_link placements)) (map.get-remove keys_total base.links (from, local) k))
-  where
-    turned : (t : Bool) (o : Option Link) → cond t None (option_map (effective_link placements) o) ≡ option_map (effective_link placements) (cond t None o)
-    turned true o = refl
-    turned false o = refl
-current_change base placements d (Node router transit) k off current = current
-
--- If neither of two tests holds, the first fails.
-first_fails : (a b : Bool) → (a || b) ≡ false → a ≡ false
-first_fails true b e = e
-first_fails false b e = refl
-
--- If neither of two tests holds, the second fails.
-second_fails : (a b : Bool) → (a || b) ≡ false → b ≡ false
-second_fails true b e = absurd (cc)
-second_fails false b e = e
-
--- Let the same changes be made in the base and in a database, and let none of them set a link at a
--- key. If the database agreed with the effective database at this key before, it agrees afterwards,
--- too.
-current_along_changes : (base d : Database) (placements : List Placement) (cs : List Change) (k : Key)
-    → list_any (puts_key k) cs ≡ false → IsCurrentAt base placements d k
-    → IsCurrentAt (after_changes base cs) placements (after_changes d cs) k
-current_along_changes base d placements [] k off current = current
-current_along_changes base d placements (c ∷ cs) k off current =
-    current_along_changes (after_change base c) (after_change d c) placements cs k
-    (second_fails (puts_key k c) _ off)
-    (current_change base placements d c k (first_fails (puts_key k c) _ off) current)
-
-pub current_changes : (base : Database) (placements : List Placement) (d : Database) (cs : List Change)
-    → ((k : Key) → IsCurrentAt base placements d k)
-    → IsCurrentButPut (after_changes base cs) placements (after_changes d cs) cs
-current_changes base placements d cs current k off =
-    current_along_changes base d placements cs k off (current k)
 
 -- At each key, the effective database has the base's link with its effective bandwidths
 -- (`IsCurrentAt`).

@@ -93,7 +93,7 @@ module _ (links : List Passed) (i : ℕ) (l : Passed) (key : Key) (hold bandwidt
 -- If the sums are the same before and after each of two steps, they are the same before and after
 -- both steps.
 pub same_sums_on : (c d e : Counts) → HasSameSums c d → HasSameSums d e → HasSameSums c e
-same_sums_on c d e first second = record { at = λ k p. second.at k p ∙ first.at k p }
+same_sums_on c d e first second = record { at = λ k p small. second.at k p small ∙ first.at k p small }
 
 -- If each of two steps keeps the entries of all keys, both steps together keep them.
 pub keeps_keys_on : (c d e : Counts) → KeepsKeys c d → KeepsKeys d e → KeepsKeys c e
@@ -116,7 +116,7 @@ keys_more c d links i l within keys keeps there = record {
 -- If an entry of zeros is made at a key that had no entry, no sum changes.
 pub entered_sums : (c d : Counts) (key : Key) → is_some (get key_cmp c.sums key) ≡ false
     → ((k : Key) → get key_cmp d.sums k ≡ cond (eq_by_cmp key_cmp key k) (Some no_sums) (get key_cmp c.sums k)) → HasSameSums c d
-entered_sums c d key none is = record { at = λ k p. ap (λ o. slice_index (unwrap_or o no_sums) p) (is k) ∙ chosen k p (eq_by_cmp key_cmp key k) refl }
+entered_sums c d key none is = record { at = λ k p _. ap (λ o. slice_index (unwrap_or o no_sums) p) (is k) ∙ chosen k p (eq_by_cmp key_cmp key k) refl }
   where
     absent : (o : Option (List ℕ)) → is_some o ≡ false → unwrap_or o no_sums ≡ no_sums
     absent (Some x) e = absurd (cc)
@@ -132,7 +132,7 @@ entered_sums c d key none is = record { at = λ k p. ap (λ o. slice_index (unwr
 -- If an entry of zeros is removed, no sum changes.
 pub forgotten_sums : (c d : Counts) (key : Key) → sums_at c key ≡ no_sums
     → ((k : Key) → get key_cmp d.sums k ≡ cond (eq_by_cmp key_cmp key k) None (get key_cmp c.sums k)) → HasSameSums c d
-forgotten_sums c d key none is = record { at = λ k p. ap (λ o. slice_index (unwrap_or o no_sums) p) (is k) ∙ chosen k p (eq_by_cmp key_cmp key k) refl }
+forgotten_sums c d key none is = record { at = λ k p _. ap (λ o. slice_index (unwrap_or o no_sums) p) (is k) ∙ chosen k p (eq_by_cmp key_cmp key k) refl }
   where
     chosen : (k : Key) (p : ℕ) (t : Bool) → eq_by_cmp key_cmp key k ≡ t
         → slice_index (unwrap_or (cond t None (get key_cmp c.sums k)) no_sums) p ≡ sum_at c k p
@@ -200,7 +200,11 @@ count_more c d placements p is more = record {
 -- If `c` has the sums of some placements, and `d` has the same sums as `c`, `d` has the sums of
 -- these placements.
 pub count_same : (c d : Counts) (placements : List Placement) → HasSameSums c d → IsCountOf c placements → IsCountOf d placements
-count_same c d placements same is = record { at = λ k q small. same.at k q ∙ is.at k q small }
+count_same c d placements same is = record { at = λ k q small. same.at k q small ∙ is.at k q small }
+
+-- If a bandwidth is added and subtracted again, the sums are the same as before.
+pub sums_undone : (c d e : Counts) (links : List Passed) (hold bandwidth : ℕ) → HasMoreAlong c d links hold bandwidth → HasMoreAlong e d links hold bandwidth → HasSameSums c e
+sums_undone c d e links hold bandwidth more less = record { at = λ k p small. omega (arith, more.at k p small, less.at k p small) }
 
 -- At each key and priority, the sum over all placements is at least the bandwidth that the
 -- placement at index `at` counts.
@@ -238,7 +242,7 @@ pub sums_small : (c d : Counts) (placements rest : List Placement) (version : �
     → ((k : Key) (p : ℕ) → counted rest k p ≤ counted placements k p)
     → ((k : Key) (p : ℕ) → counted placements k p ≤ version * 2 ^ 64) → version < 1000000 → AreSmall d
 sums_small c d placements rest version same is less small few = record {
-  at = λ k p below. omega (arith, same.at k p, is.at k p below, less k p, small k p);
+  at = λ k p below. omega (arith, same.at k p below, is.at k p below, less k p, small k p);
 }
 
 -- Placing one request adds at most its bandwidth to the bandwidth that is counted at a key and a

@@ -5,6 +5,11 @@ pub mod KeyTests
 pub mod AlikeDatabases
 pub mod Currents
 pub mod OneLink
+pub mod BaseBatches
+pub mod ListedPuts
+pub mod MovedBatches
+pub mod MovedRoutes
+pub mod Proposals
 pub mod Ids
 pub mod ById
 pub mod RouterBits

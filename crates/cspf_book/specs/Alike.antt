@@ -1,17 +1,14 @@
 -- Private: databases that differ only in attributes of their links. Also: the keys at which a
 -- database agrees with the effective database (the base with the bandwidth that the placements
 -- leave on its links).
-use Rattle.std.specs.Prelude.{◌≡◌, ◌≤◌, Bool, false, cond, List, [], ◌∷◌}
+use Rattle.std.specs.Prelude.{◌≡◌, ◌≤◌, false, cond, List}
 use Rattle.std.specs.Ordering.{eq_by_cmp}
-use Rattle.std.specs.List.{list_any}
 use Rattle.std.specs.Option.{option_map}
 use Rattle.cspf_book.specs.declared.path.Passed.{Passed}
-use Rattle.cspf_model.specs.declared.batch.Change.{Change}
-use Rattle.cspf_model.specs.declared.batch.Change.TheVariants.{Put, Remove, Node}
 use Rattle.cspf_model.specs.declared.limits.TheConstants.{MOST_LINKS, MOST_ROUTERS, MOST_MARKS}
 use Rattle.cspf_model.specs.Database.{Database, Key, key_cmp, link_at, link_count, router_count, mark_count, AreAtTheirKeys}
 use Rattle.cspf_book.specs.declared.placement.Placement.{Placement}
-use Rattle.cspf_book.specs.Placements.{ends_of_link, passed_of, has_key}
+use Rattle.cspf_book.specs.Placements.{ends_of_link, has_key}
 use Rattle.cspf_book.specs.Effective.{effective_link}
 
 -- The two databases have links at the same keys, and the two links at a key run to the same router.
@@ -39,18 +36,6 @@ IsCurrentNowAt base placements old new key =
 abbrev pub IsCurrentBut : Database → List Placement → Database → List Passed → Type 0
 IsCurrentBut base placements d links =
     (k : Key) → has_key links k ≡ false → IsCurrentAt base placements d k
-
--- the change sets a link with this key (`Put`)
-abbrev pub puts_key : Key → Change → Bool
-puts_key k (Put l) = has_key (passed_of l ∷ []) k
-puts_key k (Remove from local) = false
-puts_key k (Node router transit) = false
-
--- `d` agrees with the effective database (`IsCurrentAt`) at each key at which these changes set no
--- link (`Put`).
-abbrev pub IsCurrentButPut : Database → List Placement → Database → List Change → Type 0
-IsCurrentButPut base placements d changes =
-    (k : Key) → list_any (puts_key k) changes ≡ false → IsCurrentAt base placements d k
 
 -- The database is within a table's limits on the numbers of links, routers and marks. Each link is
 -- stored at its own key.

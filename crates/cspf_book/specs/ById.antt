@@ -57,6 +57,13 @@ pub record HasSameIds (old new : Ids) : Type 0 where
 pub record HasEntered (old new : Ids) (id version : ℕ) : Type 0 where
   pub at : (other : ℕ) → entered new other ≡ cond (nat_eq id other) (Some version) (entered old other)
 
+-- The map of `new` has the version `before` for `id`, or no version. For all other ids, the maps of
+-- `new` and `old` are the same. The lists of versions and bits are unchanged.
+pub record HasRestored (old new : Ids) (id : ℕ) (before : Option ℕ) : Type 0 where
+  pub versions : new.versions ≡ old.versions
+  pub bits : new.bits ≡ old.bits
+  pub at : (other : ℕ) → entered new other ≡ cond (nat_eq id other) before (entered old other)
+
 -- In the list of versions, the element at `index` is removed, and `version` is appended. In the
 -- list of bits, the element at `index` is removed, and `added` is appended. The map of versions by
 -- ids is unchanged.

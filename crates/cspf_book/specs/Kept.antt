@@ -49,7 +49,7 @@ pub record KeepsKeys (old new : Counts) : Type 0 where
 
 -- `old` and `new` have the same sums at all keys and priorities.
 pub record HasSameSums (old new : Counts) : Type 0 where
-  pub at : (k : Key) (priority : ℕ) → sum_at new k priority ≡ sum_at old k priority
+  pub at : (k : Key) (priority : ℕ) → priority < 8 → sum_at new k priority ≡ sum_at old k priority
 
 -- `new` has these sums at `key`. Its other entries are the entries of `old`.
 pub record HasSumsAt (old new : Counts) (key : Key) (sums : List ℕ) : Type 0 where

@@ -10,6 +10,7 @@ use Rattle.cspf_model.specs.Walks.{IsWalk}
 use Rattle.cspf_book.specs.declared.placement.Placement.{Placement}
 use Rattle.cspf_book.specs.Placements.{passed_of, id_of, others, counted}
 use Rattle.cspf_book.specs.Effective.{effective_link, effective}
+use Rattle.cspf_book.specs.Leading.{effective_change}
 use Rattle.cspf_book.specs.OverLinks.{over_at, over}
 use Rattle.cspf_book.specs.LostRoutes.{AreLost}
 
@@ -38,6 +39,14 @@ abbrev pub NothingHeldIsBase : Type 0
 NothingHeldIsBase =
     (l : Link) (p : ℕ) → p < 8
     → slice_index (effective_link [] l).free p ≡ least_up_to l.free p
+
+-- The effective database after changes of the base is made by the same changes of the effective
+-- database before. There, each link that is put has its effective bandwidths.
+abbrev pub ChangesAreEffective : Type 0
+ChangesAreEffective =
+    (base : Database) (placements : List Placement) (changes : List Change)
+    → effective (after_changes base changes) placements
+    ≡ after_changes (effective base placements) (map (effective_change placements) changes)
 
 -- A link is covered at a priority if the placements count at most the link's unreserved bandwidth
 -- at this priority.

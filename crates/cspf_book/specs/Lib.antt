@@ -3,6 +3,8 @@ pub mod Placements
 pub mod Effective
 pub mod Alike
 pub mod BookState
+pub mod Leading
+pub mod Takings
 pub mod OverLinks
 pub mod LostRoutes
 pub mod Following
@@ -11,6 +13,7 @@ pub mod Touched
 pub mod ByKey
 pub mod Laws
 pub mod Offers
+pub mod Giving
 pub mod Kept
 pub mod ById
 pub mod Inside

@@ -1,30 +1,35 @@
 //! A book: a base database, the placements over it, and the effective database. This is the base,
 //! with the bandwidth that the placements leave on its links.
 
-ghost use Rattle.std.specs.Prelude.{◌≡◌, ◌+◌, ◌<◌, [], IsTrue, IfOk, IfErr, OnOk, OnErr};
+ghost use Rattle.std.specs.Prelude.{◌≡◌, ◌<◌, [], IsTrue, IfOk, IfErr, OnOk, OnErr};
 ghost use Rattle.cspf_model.specs.Best.{IsBestAnswer};
 ghost use Rattle.cspf_model.specs.Changes.{no_links, after_changes, Fits};
+ghost use Rattle.cspf_model.specs.Numbered.{NumberedChanges};
 ghost use Rattle.cspf_model.specs.Outcome.{answer_of};
-ghost use Rattle.cspf_model.specs.Refusals.{IsRefusal};
 ghost use Rattle.cspf_model.specs.declared.limits.TheConstants.{MOST_VERSIONS};
-ghost use Rattle.cspf_book.specs.Placements.{has_id, others, counted};
+ghost use Rattle.cspf_book.specs.Placements.{has_id, counted};
 ghost use Rattle.cspf_book.specs.Effective.{effective};
-ghost use Rattle.cspf_book.specs.BookState.{effective_beside, HasRoomFor, IsAnswerPlaced, IsPlaceError};
+ghost use Rattle.cspf_book.specs.BookState.{effective_beside, HasRoomFor, IsAnswerPlaced};
+ghost use Rattle.cspf_book.specs.Leading.{IsMoveBatch, IsBaseBatch};
+ghost use Rattle.cspf_book.specs.Takings.{after_absorbing, after_releasing, IsPlacingTaken, IsUnplaced, IsUnreleased, IsUnabsorbed};
 ghost use Rattle.cspf_book.specs.OverLinks.{over};
 ghost use Rattle.cspf_book.specs.LostRoutes.{AreLost};
 
 use crate::counts::Counts;
-use crate::effective_links::{refresh_puts, within_limits};
-use crate::error::{Absent, PlaceError};
+use crate::effective_links::within_limits;
+use crate::error::{AbsorbError, PlaceError, ReleaseError, VersionError};
+use crate::giving::give_release;
+use crate::leading::{base_batch, route_at};
 use crate::limits::MOST_PLACEMENTS;
 use crate::lost::lost;
-use crate::moves::{Held, forget_at, take_out};
+use crate::moves::{Held, enter_at, forget_at, take_out};
 use crate::over::{Over, find_over};
 use crate::placement::Placement;
+use crate::taker::Taker;
 use crate::versions::Ids;
 use cspf_addr::Addr;
 use cspf_db::Table;
-use cspf_model::{Batch, Change, Outcome, Refusal, Request};
+use cspf_model::{Batch, Change, Outcome, Request};
 use cspf_search::best;
 use std::alloc::{AllocError, Global};
 use std::marker::Model;
@@ -150,45 +155,57 @@ impl Book {
         )
     }
 
-    /// Makes all changes of a batch in the base if the batch fits, and otherwise changes nothing.
-    /// All placements stay, even if the base then has less bandwidth than the placements hold. No
-    /// memory is allocated.
-    pub fn try_absorb(&mut self, batch: &Batch) -> Result<(), Refusal>
+    /// Makes all changes of a batch in the base if the batch fits and the taker takes the same
+    /// changes of the effective database. Otherwise changes nothing. All placements stay, even if
+    /// the base then has less bandwidth than the placements hold. The batch's number isn't checked.
+    pub fn try_absorb<C, S: Taker<C>>(
+        &mut self,
+        taker: &mut S,
+        context: &C,
+        alloc: Global,
+        batch: &Batch,
+    ) -> Result<(), VersionError<AbsorbError, S::Refusal>>
         requires { self.old.version < MOST_VERSIONS }
         ensures ok { OnOk result (Fits self.old.base batch.now) }
-        ensures changed { OnOk result (self.new ≡ record {
-          base = after_changes self.old.base batch.now.changes;
-          version = self.old.version + 1;
-          placements = self.old.placements;
-        }) }
-        ensures err { IfErr result (λ refusal. IsRefusal self.old.base batch.now refusal) }
+        ensures changed { OnOk result (self.new ≡ after_absorbing self.old batch.now.changes) }
+        ensures taken { OnOk result ((made : NumberedChanges)
+            × IsBaseBatch self.old batch.now.changes made self.new
+            × S.takes taker.old made taker.new) }
+        ensures err { IfErr result (λ why.
+            IsUnabsorbed S.refuses self.old batch.now taker.old why taker.new) }
         ensures same { OnErr result (self.new ≡ self.old) }
     {
-        self.base.try_absorb(batch)?;
         within_limits(&self.base);
-        self.held.effective.absorb(batch);
-        refresh_puts(
-            &mut self.held.effective,
-            &mut self.held.one,
-            &self.base,
-            &self.held.counts,
-            &batch.changes,
-        );
-        self.version += 1;
-        Ok(())
+        let plan = match self.base.plan(batch) {
+            Ok(plan) => plan,
+            Err(why) => return Err(VersionError::Book(AbsorbError::Unfit(why))),
+        };
+        let next = self.version + 1;
+        let made = base_batch(alloc, &self.held.counts, next, &batch.changes)?;
+        match taker.take(context, alloc, &made) {
+            Ok(()) => {
+                self.base.absorb_planned(batch, plan);
+                self.held.effective.absorb(&made);
+                self.version = next;
+                Ok(())
+            }
+            Err(why) => Err(VersionError::Taker(why)),
+        }
     }
 
     /// Places a request, whose setup priority has to be 7. First the best answer is found in the
     /// effective database. An earlier placement with the request's id isn't counted in this search.
-    /// If the answer is a route, the request is placed along this route, and the new placement
-    /// replaces the earlier placement. Any other answer changes nothing, and an error changes
-    /// nothing either.
-    pub fn place(
+    /// If the answer is a route, the taker is given the batch of the placing. If it takes the batch,
+    /// the request is placed along the route, and the new placement replaces the earlier placement.
+    /// Any other answer changes nothing, and an error changes nothing either.
+    pub fn place<C, S: Taker<C>>(
         &mut self,
+        taker: &mut S,
+        context: &C,
         alloc: Global,
         request: &Request,
         hold: u8,
-    ) -> Result<Outcome, PlaceError>
+    ) -> Result<Outcome, VersionError<PlaceError, S::Refusal>>
         requires setup { request.now.setup ≡ 7 }
         requires hold { hold < 8 }
         requires room { self.old.version < MOST_VERSIONS }
@@ -197,17 +214,24 @@ impl Book {
         ensures few { OnOk result (HasRoomFor self.old request.now.id) }
         ensures placed { IfOk result (λ outcome.
             IsAnswerPlaced self.old request.now hold (answer_of outcome) self.new) }
-        ensures why { IfErr result (λ why. IsPlaceError self.old request.now why) }
+        ensures taken { IfOk result (λ outcome. IsPlacingTaken S.places self.old request.now.id
+            taker.old (answer_of outcome) self.new taker.new) }
+        ensures why { IfErr result (λ why.
+            IsUnplaced S.refuses self.old request.now hold taker.old why taker.new) }
         ensures same { OnErr result (self.new ≡ self.old) }
     {
         let at = self.held.ids.index_of(request.id);
         if at == MOST_PLACEMENTS {
-            return Err(PlaceError::Full);
+            return Err(VersionError::Book(PlaceError::Full));
         }
+        within_limits(&self.base);
         self.held.make_room(&mut self.placements, at)?;
         self.held.set_aside(&self.base, &self.placements, at);
         let next = self.version + 1;
-        let answer = match self.held.offer(alloc, request, hold, next) {
+        let old = route_at(&self.placements, at);
+        let answer = match self.held.propose(
+            taker, context, alloc, &self.base, old, request, hold, next,
+        ) {
             Ok((outcome, offered)) => match offered {
                 Some(placement) => {
                     self.held
@@ -223,28 +247,53 @@ impl Book {
         answer
     }
 
-    /// Releases the placement with this id. If no placement has the id, nothing changes. No memory
-    /// is allocated.
-    pub fn release(&mut self, id: u64) -> Result<(), Absent>
+    /// Releases the placement with this id, if the taker takes the batch of the release. If no
+    /// placement has the id, nothing changes, and an error changes nothing.
+    pub fn release<C, S: Taker<C>>(
+        &mut self,
+        taker: &mut S,
+        context: &C,
+        alloc: Global,
+        id: u64,
+    ) -> Result<(), VersionError<ReleaseError, S::Refusal>>
         requires { self.old.version < MOST_VERSIONS }
         ensures ok { OnOk result (IsTrue (has_id id self.old.placements)) }
-        ensures released { OnOk result (self.new ≡ record {
-          base = self.old.base;
-          version = self.old.version + 1;
-          placements = others id self.old.placements;
-        }) }
-        ensures absent { OnErr result (¬ IsTrue (has_id id self.old.placements)) }
+        ensures released { OnOk result (self.new ≡ after_releasing self.old id) }
+        ensures taken { OnOk result ((made : NumberedChanges)
+            × IsMoveBatch self.old id made self.new × S.takes taker.old made taker.new) }
+        ensures why { IfErr result (λ why.
+            IsUnreleased S.refuses self.old id taker.old why taker.new) }
         ensures same { OnErr result (self.new ≡ self.old) }
     {
         let at = self.held.ids.index_of(id);
         if at == self.placements.len() {
-            return Err(Absent);
+            return Err(VersionError::Book(ReleaseError::Absent));
         }
+        within_limits(&self.base);
+        enter_at(&mut self.held.counts, &self.placements, at)?;
         self.held.set_aside(&self.base, &self.placements, at);
-        forget_at(&mut self.held.counts, &self.placements, at);
-        take_out(&mut self.placements, at);
-        self.held.ids.forget(id, at);
-        self.version += 1;
-        Ok(())
+        let next = self.version + 1;
+        let old = route_at(&self.placements, at);
+        match give_release(
+            taker,
+            context,
+            alloc,
+            &self.base,
+            &self.held.counts,
+            next,
+            old,
+        ) {
+            Ok(()) => {
+                forget_at(&mut self.held.counts, &self.placements, at);
+                take_out(&mut self.placements, at);
+                self.held.ids.forget(id, at);
+                self.version = next;
+                Ok(())
+            }
+            Err(why) => {
+                self.held.set_back(&self.base, &self.placements, at);
+                Err(why)
+            }
+        }
     }
 }

@@ -9,8 +9,8 @@ ghost use Rattle.cspf_model.specs.Fields.{HasLinkFields, fields_of_link};
 ghost use Rattle.cspf_model.specs.Changes.{after_change};
 ghost use Rattle.cspf_book.specs.declared.placement.Placement.{Placement as Placed};
 ghost use Rattle.cspf_book.specs.Placements.{ends_of_link};
-ghost use Rattle.cspf_book.specs.Effective.{effective, effective_link};
-ghost use Rattle.cspf_book.specs.Alike.{AreAlike, IsCurrentButPut, IsCurrentNowAt, IsWithinLimits};
+ghost use Rattle.cspf_book.specs.Effective.{effective_link};
+ghost use Rattle.cspf_book.specs.Alike.{AreAlike, IsCurrentNowAt, IsWithinLimits};
 ghost use Rattle.cspf_book.specs.Kept.{IsCountOf};
 
 use crate::counts::Counts;
@@ -41,7 +41,7 @@ fn lesser(link: &Link, sums: [u128; 8], priority: u8, least: u64) -> u64
 
 /// The link with its effective bandwidths, which follow from the bandwidth that `counts` has for
 /// the link.
-fn effective_link(counts: &Counts, link: &Link) -> Link
+pub(crate) fn effective_link(counts: &Counts, link: &Link) -> Link
     ensures effective { (placements : List Placed) → IsCountOf counts.now placements
         → result ≡ effective_link placements link.now }
     ensures ends { ends_of_link result ≡ ends_of_link link.now }
@@ -118,29 +118,5 @@ pub(crate) fn refresh(
     within_limits(base);
     if let Some(link) = base.find(from, local) {
         put_over(table, one, effective_link(counts, &link));
-    }
-}
-
-/// For each link that a change sets (`Put`), puts the base's link with the same key into the table,
-/// with its effective bandwidths. If the table already agreed with the effective database at all
-/// other keys, it is then the effective database.
-pub(crate) fn refresh_puts(
-    table: &mut Table,
-    one: &mut Batch,
-    base: &Table,
-    counts: &Counts,
-    changes: &[Change],
-)
-    requires one { length one.old.changes ≡ 1 }
-    requires alike { AreAlike base.now table.old }
-    ensures one { length one.new.changes ≡ 1 }
-    ensures current { (placements : List Placed) → IsCountOf counts.now placements
-        → IsCurrentButPut base.now placements table.old changes.now
-        → table.new ≡ effective base.now placements }
-{
-    for change in changes {
-        if let Change::Put(link) = change {
-            refresh(table, one, base, counts, link.from, link.local);
-        }
     }
 }

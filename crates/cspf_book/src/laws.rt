@@ -1,6 +1,6 @@
 //! Laws that follow from the definitions of `specs/` alone. Each function here does nothing: its
 //! contract is the law.
-ghost use Rattle.cspf_book.specs.Laws.{FiguresNeverRise, HasEffectiveLinks, NothingHeldIsBase, PlacingKeepsCovered, ReleasingKeepsCovered, AbsorbingKeepsCovered, HaveOneLostList};
+ghost use Rattle.cspf_book.specs.Laws.{FiguresNeverRise, HasEffectiveLinks, NothingHeldIsBase, ChangesAreEffective, PlacingKeepsCovered, ReleasingKeepsCovered, AbsorbingKeepsCovered, HaveOneLostList};
 
 /// The effective bandwidths of a link never rise from priority 0 to priority 7. So a request that
 /// fits at priority 7 also fits at each priority at which its placement is counted.
@@ -14,6 +14,12 @@ pub fn figures_never_rise()
 pub fn effective_databases()
     ensures links { HasEffectiveLinks }
     ensures none { NothingHeldIsBase }
+{}
+
+/// Changes of the base make the same changes of the effective database, in which each link that is
+/// put has its effective bandwidths.
+pub fn changes_of_effective_databases()
+    ensures { ChangesAreEffective }
 {}
 
 /// A link is *covered* if the placements count at most its unreserved bandwidth in the base, at

@@ -3,7 +3,8 @@
 //!
 //! `specs/Placements.antt` defines how much bandwidth is counted on a link. `specs/Effective.antt`
 //! defines the effective database: the base, with the bandwidth that the placements leave on its
-//! links. `specs/BookState.antt` defines how placing a request changes a book.
+//! links. `specs/BookState.antt` defines how placing a request changes a book. `specs/Leading.antt`
+//! defines the batch that each change of a book makes for its taker.
 //! `specs/OverLinks.antt` and `specs/LostRoutes.antt` define how changes of the base affect
 //! placements. `specs/Laws.antt` has the laws that follow from these definitions.
 #![tactic(auto)]
@@ -15,7 +16,9 @@ mod counting;
 mod counts;
 mod effective_links;
 mod error;
+mod giving;
 mod laws;
+mod leading;
 mod limits;
 mod lost;
 mod moves;
@@ -24,13 +27,18 @@ mod over;
 mod path;
 mod placement;
 mod router_bits;
+mod taker;
 mod touched;
 mod versions;
 
 pub use book::Book;
-pub use error::{Absent, PlaceError};
-pub use laws::{covered_links, effective_databases, figures_never_rise, one_lost_list};
+pub use error::{AbsorbError, PlaceError, ReleaseError, VersionError};
+pub use laws::{
+    changes_of_effective_databases, covered_links, effective_databases, figures_never_rise,
+    one_lost_list,
+};
 pub use limits::{MOST_PLACED_LINKS, MOST_PLACEMENTS, MOST_ROUTES_LINKS};
 pub use over::Over;
 pub use path::{Passed, Path};
 pub use placement::Placement;
+pub use taker::Taker;

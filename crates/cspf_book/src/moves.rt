@@ -42,6 +42,23 @@ pub(crate) fn forget_at(counts: &mut Counts, placements: &[Placement], at: usize
     }
 }
 
+/// Makes entries of `counts` for the links of the placement at index `at`, if there is such a
+/// placement. In a book these entries exist already. After an error, some of them may be missing.
+pub(crate) fn enter_at(
+    counts: &mut Counts,
+    placements: &[Placement],
+    at: usize,
+) -> Result<(), AllocError>
+    ensures sums { HasSameSums counts.old counts.new }
+    ensures kept { KeepsKeys counts.old counts.new }
+    ensures keys { OnOk result (HasKeysAt counts.new placements.now at) }
+{
+    if at < placements.len() {
+        counts.enter(placements[at].route.links())?;
+    }
+    Ok(())
+}
+
 /// Removes the placement at index `at` from the list of placements, if there is such a placement.
 pub(crate) fn take_out(placements: &mut Vec<Placement>, at: usize)
     ensures items { placements.new.items ≡ remove placements.old.items at }
@@ -88,10 +105,7 @@ impl Held {
     {
         placements.reserve(1)?;
         self.ids.reserve()?;
-        if at < placements.len() {
-            self.counts.enter(placements[at].route.links())?;
-        }
-        Ok(())
+        enter_at(&mut self.counts, placements, at)
     }
 
     /// Subtracts the bandwidth of the placement at index `at`, if there is such a placement, from
@@ -145,8 +159,8 @@ impl Held {
     }
 
     /// Appends a placement that is placed in this version of the book to the list, and counts its
-    /// bandwidth and its links. If there is a placement at index `at`, it is removed; it has to be
-    /// set aside. No memory is allocated.
+    /// links. Its bandwidth has to be counted already. If there is a placement at index `at`, it is
+    /// removed; it has to be set aside. No memory is allocated.
     pub(crate) fn put_in(
         &mut self,
         base: &Table,
@@ -160,23 +174,19 @@ impl Held {
         requires id_room { HasRoomForOne self.old.ids }
         requires few { self.old.links + length placement.route ≤ MOST_ROUTES_LINKS }
         requires links { self.old.links ≡ links_placed (remove placements.old.items at) }
-        requires keys { HasKeys self.old.counts placement.route }
-        requires small { AreSmall self.old.counts }
-        requires counted { IsCountOf self.old.counts (remove placements.old.items at) }
+        requires counted { IsCountOf self.old.counts (remove placements.old.items at ++ placement ∷ []) }
         requires current { self.old.effective ≡ effective base.now (remove placements.old.items at) }
         ensures one { length self.new.one.changes ≡ 1 }
         ensures items { placements.new.items ≡ remove placements.old.items at ++ placement ∷ [] }
         ensures ids { HasReplaced self.old.ids self.new.ids at version (bits_of placement) }
         ensures links { self.new.links ≡ links_placed placements.new.items }
         ensures counted { IsCountOf self.new.counts placements.new.items }
-        ensures narrow { placement.request.bandwidth < 2 ^ 64 }
         ensures current { self.new.effective ≡ effective base.now placements.new.items }
     {
         within_limits(base);
         take_out(placements, at);
         self.ids.replace(at, version, bits_of(&placement));
         self.links += placement.route.links().len();
-        self.counts.add(&placement);
         self.refresh(base, &placement);
         placements.push_reserved(placement);
     }

@@ -1,12 +1,12 @@
 //! Finds the index of the placement with an id, by the version of the book in which it was placed.
 //! Also stores the bits of the routers on each placement's route.
 
-ghost use Rattle.std.specs.Prelude.{◌≡◌, ◌<◌, ◌++◌, ℕ, [], ◌∷◌, List, length, vec_len, remove, OnOk, OnErr};
+ghost use Rattle.std.specs.Prelude.{◌≡◌, ◌<◌, ◌++◌, ℕ, [], ◌∷◌, List, length, vec_len, remove, IsSome, OnOk, OnErr};
 ghost use Rattle.std.specs.Vec.{vec_capacity};
 ghost use Rattle.std.specs.List.Sorted.{IsNonDecreasing};
 ghost use Rattle.cspf_book.specs.declared.placement.Placement.{Placement as Placed};
 ghost use Rattle.cspf_book.specs.Placements.{index_of_id};
-ghost use Rattle.cspf_book.specs.ById.{AreIdsOf, IsIndexIn, HasRoomForOne, HasSameIds, HasEntered, HasReplaced, HasForgotten};
+ghost use Rattle.cspf_book.specs.ById.{entered, AreIdsOf, IsIndexIn, HasRoomForOne, HasSameIds, HasEntered, HasRestored, HasReplaced, HasForgotten};
 
 use std::alloc::{AllocError, Global};
 use std::collections::BTreeMap;
@@ -72,6 +72,29 @@ impl Ids {
     {
         self.by_id.insert(id, version)?;
         Ok(())
+    }
+
+    /// The version in the map by ids for this id, if there is one.
+    pub(crate) fn version_of(&self, id: u64) -> Option<u32>
+        ensures { result ≡ entered self.now id }
+    {
+        self.by_id.get(&id).copied()
+    }
+
+    /// Undoes `enter`: the map by ids has the version `before` for this id again, or no version.
+    /// The map has to have a version for the id. No memory is allocated.
+    pub(crate) fn restore(&mut self, id: u64, before: Option<u32>)
+        requires { IsSome (entered self.old id) }
+        ensures { HasRestored self.old self.new id before }
+    {
+        match before {
+            Some(version) => {
+                let _ = self.by_id.insert(id, version);
+            }
+            None => {
+                let _ = self.by_id.remove(&id);
+            }
+        }
     }
 
     /// Removes the version and the bits at index `at` from their lists, if the lists have this
