@@ -181,6 +181,7 @@ def known_batches():
 def lowered(module):
     """The lines of a reference whose limits are low, where they are met and passed."""
     kept = module.MOST_PLACEMENTS, module.MOST_ROUTES_LINKS, module.MOST_VERSIONS, module.MOST_PLACED_LINKS
+    placing = module.MOST_PLACING_VERSIONS
     found = []
     try:
         module.MOST_PLACEMENTS = 2
@@ -193,14 +194,16 @@ def lowered(module):
         found.append(module.book(line + "end,1,4\n" + place(1, ends=far) + place(2, ends=far) + place(2) + place(3) + place(1, ends=far)
                                  + place(3, bandwidth=0, hops="3.3.3.3/32l 1.1.1.1/32l") + place(2, ends=far) + place(4, bandwidth=2000)
                                  + "release,2\n" + place(3)))
-        module.MOST_ROUTES_LINKS, module.MOST_VERSIONS = 9, 3
+        module.MOST_ROUTES_LINKS, module.MOST_PLACING_VERSIONS, module.MOST_VERSIONS = 9, 3, 4
         found.append(module.book(BASE + place(1) + "release,2\n" + place(2) + place(3) + place(3, ends="8.8.8.8,9.9.9.9")
-                                 + f"release,1\nrelease,9\nend,1,0\nask,1,1.1.1.1,2.2.2.2,7,0,{MASKS},\n"))
+                                 + f"release,1\nrelease,9\nend,2,0\nend,1,0\nask,1,1.1.1.1,2.2.2.2,7,0,{MASKS},\n"))
         module.MOST_ROUTES_LINKS, module.MOST_VERSIONS, module.MOST_PLACED_LINKS = 1, 9, 1
+        module.MOST_PLACING_VERSIONS = 9
         found.append(module.book(line + "end,1,4\n" + place(1, ends=far) + place(1) + place(2) + place(1, ends=far)
                                  + place(3, bandwidth=0, hops="3.3.3.3/32l 1.1.1.1/32l")))
     finally:
         module.MOST_PLACEMENTS, module.MOST_ROUTES_LINKS, module.MOST_VERSIONS, module.MOST_PLACED_LINKS = kept
+        module.MOST_PLACING_VERSIONS = placing
     return found
 
 
@@ -213,7 +216,7 @@ LOWERED = [
          "place 3 refused: twice", "place 2 refused: links", "place 4 v4 none", "released 2 v5", f"place 3 v6 {DIRECT}"]),
     (2, ["base 1 v1", f"place 1 v2 {DIRECT}", "release 2 refused: absent", f"place 2 v3 {DIRECT}", "place 3 refused: exhausted",
          "place 3 refused: exhausted",
-         "release 1 refused: exhausted", "release 9 refused: exhausted", "batch 1 refused: exhausted", f"ask 1 v3 {DIRECT}"]),
+         "release 1 refused: exhausted", "release 9 refused: exhausted", "base 2 v4", "batch 1 refused: exhausted", f"ask 1 v4 {DIRECT}"]),
     (2, ["base 1 v1", "place 1 refused: long", f"place 1 v2 {DIRECT}", "place 2 refused: links", "place 1 refused: long",
          "place 3 refused: twice"]),
 ]

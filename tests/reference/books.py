@@ -15,6 +15,7 @@ SETUP = 7  # the priority at which a place row is asked
 MOST_PLACEMENTS = 65_536
 MOST_PLACED_LINKS = 2_048
 MOST_ROUTES_LINKS = 1_048_576
+MOST_PLACING_VERSIONS = 900_000  # from this version on only base batches are accepted
 
 
 # ---- rows
@@ -147,7 +148,7 @@ class Book:
     def place(self, request):
         """The line of an answer. The book changes only if the answer is a route. The first refusal that applies is raised."""
         others = self.others(request["id"])
-        if self.version == MOST_VERSIONS:
+        if self.version >= MOST_PLACING_VERSIONS:
             raise Refused("exhausted")
         if len(others) == MOST_PLACEMENTS:
             raise Refused("full")
@@ -164,7 +165,7 @@ class Book:
 
     def release(self, name):
         others = self.others(name)
-        if self.version == MOST_VERSIONS:
+        if self.version >= MOST_PLACING_VERSIONS:
             raise Refused("exhausted")
         if len(others) == len(self.placements):
             raise Refused("absent")

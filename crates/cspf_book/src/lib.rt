@@ -41,4 +41,4 @@ pub use limits::{MOST_PLACED_LINKS, MOST_PLACEMENTS, MOST_ROUTES_LINKS};
 pub use over::Over;
 pub use path::{Passed, Path};
 pub use placement::Placement;
-pub use taker::Taker;
+pub use taker::{Taker, TakesAll};

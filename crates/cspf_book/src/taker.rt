@@ -45,3 +45,34 @@ pub trait Taker<C> {
         ensures taken { OnOk result (places self.old batch.now (answer_of outcome.now) self.new) }
         ensures refused { IfErr result (λ why. refuses self.old batch.now why self.new) };
 }
+
+/// Takes each batch, and does nothing with it.
+#[derive(Clone, Copy, Debug)]
+pub struct TakesAll;
+
+impl<C> Taker<C> for TakesAll {
+    type Refusal = ();
+
+    ghost use Rattle.std.specs.Prelude.{◌≡◌};
+
+    ghost takes = { λ before b after. after ≡ before };
+
+    ghost places = { λ before b answer after. after ≡ before };
+
+    // No batch is refused.
+    ghost refuses = { λ before b why after. ⊥ };
+
+    fn take(&mut self, _context: &C, _alloc: Global, _batch: &Batch) -> Result<(), ()> {
+        Ok(())
+    }
+
+    fn take_placing(
+        &mut self,
+        _context: &C,
+        _alloc: Global,
+        _batch: &Batch,
+        _outcome: &Outcome,
+    ) -> Result<(), ()> {
+        Ok(())
+    }
+}

@@ -137,7 +137,7 @@ release_refusal_once s id unreleased.Exhausted unreleased.Absent a b = absurd (o
 release_refusal_once s id unreleased.Absent unreleased.Exhausted a b = absurd (omega (arith, a.0, b))
 release_refusal_once s id unreleased.Absent unreleased.Absent a b = refl
 
-not_released : (s : BookRunState) (id : ℕ) (why : ReleaseRefusal) → s.book.version < 1000000 → IsTrue (has_id id s.book.placements) → IsReleaseRefusal s id why → ⊥
+not_released : (s : BookRunState) (id : ℕ) (why : ReleaseRefusal) → s.book.version < 900000 → IsTrue (has_id id s.book.placements) → IsReleaseRefusal s id why → ⊥
 not_released s id unreleased.Exhausted room has r = omega (arith, room, r)
 not_released s id unreleased.Absent room has r = r.1 has
 

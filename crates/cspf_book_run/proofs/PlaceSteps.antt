@@ -19,7 +19,7 @@ use Rattle.cspf_book_run.specs.declared.refusals.PlaceRefusal.TheVariants as unp
 -- If the book doesn't place a request because of the error `why`, the refusal for this error is the
 -- right reason (`IsPlaceRefusal`).
 pub refused_by : (s : BookRunState) (q : Request) (why : PlaceError) (refusal : PlaceRefusal) → place_refusal_of why ≡ Some refusal
-    → s.book.version < 1000000 → IsPlaceError s.book q why → IsPlaceRefusal s q refusal
+    → s.book.version < 900000 → IsPlaceError s.book q why → IsPlaceRefusal s q refusal
 refused_by s q Memory refusal is room error = absurd (cc is)
 refused_by s q Full refusal is room error = subst (IsPlaceRefusal s q) (let same : unplaced.Full ≡ refusal = cc is in same) (room, error)
 refused_by s q TooManyLinks refusal is room error = subst (IsPlaceRefusal s q) (let same : unplaced.Links ≡ refusal = cc is in same) (room, error)
@@ -31,10 +31,10 @@ refused_by s q TooLong refusal is room error = subst (IsPlaceRefusal s q) (let s
 -- If the book finds the best answer to a request and places the request, the `place` row is answered
 -- as `IsPlaceAnswered` states.
 pub placed : (old new : BookState) (q : Request) (hold : ℕ) (answer : Answer) (version : ℕ) (line : List ℕ)
-    → old.version < 1000000 → HasRoomFor old q.id → IsBestAnswer (effective_beside old q.id) q answer → IsAnswerPlaced old q hold answer new
+    → old.version < 900000 → HasRoomFor old q.id → IsBestAnswer (effective_beside old q.id) q answer → IsAnswerPlaced old q hold answer new
     → version ≡ new.version → IsPlaceReply q.id version answer line → (s : BookRunState) → old ≡ s.book → IsPlaceAnswered s q hold line new
 placed old new q hold answer version line room few best is is_version reply s same = record {
-  room = subst (λ (b : BookState). b.version < 1000000) same room;
+  room = subst (λ (b : BookState). b.version < 900000) same room;
   few = subst (λ (b : BookState). HasRoomFor b q.id) same few;
   answer = answer;
   best = subst (λ (b : BookState). IsBestAnswer (effective_beside b q.id) q answer) same best;

@@ -3,7 +3,7 @@
 use Rattle.std.specs.Prelude.{◌≡◌, ℕ, ◌+◌, ◌<◌, ◌≤◌, ◌⊎◌, Bool, IsTrue, List, [], ◌∷◌, ◌++◌, take, length, Result, Ok, Err}
 use Rattle.std.specs.List.{flat_map}
 use Rattle.cspf_model.specs.declared.batch.Change.{Change}
-use Rattle.cspf_model.specs.declared.limits.TheConstants.{MOST_VERSIONS}
+use Rattle.cspf_book_run.specs.declared.limits.TheConstants.{MOST_PLACING_VERSIONS}
 use Rattle.cspf_model.specs.declared.request.Request.{Request}
 use Rattle.cspf_model.specs.Best.{Answer, IsBestAnswer}
 use Rattle.cspf_model.specs.Changes.{after_changes, no_links}
@@ -137,18 +137,18 @@ IsAskAnswered s q line after =
 
 -- why a request isn't placed; the first of these reasons that applies is given
 abbrev pub IsPlaceRefusal : BookRunState → Request → PlaceRefusal → Type 0
-IsPlaceRefusal s q unplaced.Exhausted = MOST_VERSIONS ≤ s.book.version
-IsPlaceRefusal s q unplaced.Full = (s.book.version < MOST_VERSIONS) × IsPlaceError s.book q Full
-IsPlaceRefusal s q unplaced.Links = (s.book.version < MOST_VERSIONS) × IsPlaceError s.book q TooManyLinks
-IsPlaceRefusal s q unplaced.Twice = (s.book.version < MOST_VERSIONS) × IsPlaceError s.book q Twice
-IsPlaceRefusal s q unplaced.Long = (s.book.version < MOST_VERSIONS) × IsPlaceError s.book q TooLong
+IsPlaceRefusal s q unplaced.Exhausted = MOST_PLACING_VERSIONS ≤ s.book.version
+IsPlaceRefusal s q unplaced.Full = (s.book.version < MOST_PLACING_VERSIONS) × IsPlaceError s.book q Full
+IsPlaceRefusal s q unplaced.Links = (s.book.version < MOST_PLACING_VERSIONS) × IsPlaceError s.book q TooManyLinks
+IsPlaceRefusal s q unplaced.Twice = (s.book.version < MOST_PLACING_VERSIONS) × IsPlaceError s.book q Twice
+IsPlaceRefusal s q unplaced.Long = (s.book.version < MOST_PLACING_VERSIONS) × IsPlaceError s.book q TooLong
 
 -- A `place` row is answered with the best answer in the effective database, in which the request's
 -- earlier placement isn't counted. If the answer is a route, the request is placed along this
 -- route. The line has the version of the book after the row. Before the row, the book has room for
 -- one more placement and one more version.
 pub record IsPlaceAnswered (s : BookRunState) (q : Request) (hold : ℕ) (line : List ℕ) (book : BookState) : Type 0 where
-  pub room : s.book.version < MOST_VERSIONS
+  pub room : s.book.version < MOST_PLACING_VERSIONS
   pub few : HasRoomFor s.book q.id
   pub answer : Answer
   pub best : IsBestAnswer (effective_beside s.book q.id) q answer
@@ -163,13 +163,13 @@ IsPlaceTaken s q hold line after =
 
 -- why no placement with this id is released; the first of these reasons that applies is given
 abbrev pub IsReleaseRefusal : BookRunState → ℕ → ReleaseRefusal → Type 0
-IsReleaseRefusal s id unreleased.Exhausted = MOST_VERSIONS ≤ s.book.version
-IsReleaseRefusal s id unreleased.Absent = (s.book.version < MOST_VERSIONS) × (¬ IsTrue (has_id id s.book.placements))
+IsReleaseRefusal s id unreleased.Exhausted = MOST_PLACING_VERSIONS ≤ s.book.version
+IsReleaseRefusal s id unreleased.Absent = (s.book.version < MOST_PLACING_VERSIONS) × (¬ IsTrue (has_id id s.book.placements))
 
 -- A `release` row releases a placement, or it is refused and the book is unchanged.
 abbrev pub IsReleaseTaken : BookRunState → ℕ → List ℕ → BookRunState → Type 0
 IsReleaseTaken s id line after =
-    ((s.book.version < MOST_VERSIONS) × IsTrue (has_id id s.book.placements)
+    ((s.book.version < MOST_PLACING_VERSIONS) × IsTrue (has_id id s.book.placements)
     × (line ≡ released_line id (s.book.version + 1)) × (after ≡ after_release s id))
     ⊎ ((why : ReleaseRefusal) × IsReleaseRefusal s id why × (line ≡ refused_release_line id why) × (after ≡ after_refusal s))
 

@@ -2,7 +2,7 @@
 -- requests and releases placements.
 use Rattle.std.specs.Prelude.{◌≡◌, ℕ, ◌+◌, ◌<◌, IsTrue, false, List}
 use Rattle.cspf_model.specs.declared.batch.Change.{Change}
-use Rattle.cspf_model.specs.declared.limits.TheConstants.{MOST_VERSIONS}
+use Rattle.cspf_book_run.specs.declared.limits.TheConstants.{MOST_PLACING_VERSIONS}
 use Rattle.cspf_model.specs.declared.refusal.Refusal.{Refusal}
 use Rattle.cspf_model.specs.Best.{Answer, IsBestAnswer}
 use Rattle.cspf_model.specs.Changes.{Fits}
@@ -40,5 +40,5 @@ book_spec = record {
 -- release.
 abbrev pub IsReleased : BookRunState → ℕ → List ℕ → BookState → Type 0
 IsReleased s id line book =
-    (s.book.version < MOST_VERSIONS) × IsTrue (has_id id s.book.placements)
+    (s.book.version < MOST_PLACING_VERSIONS) × IsTrue (has_id id s.book.placements)
     × (line ≡ released_line id (s.book.version + 1)) × (book ≡ (after_release s id).book)

@@ -3,11 +3,12 @@
 
 ghost use Rattle.std.specs.Prelude.{◌≡◌, ◌<◌, ◌≤◌, [], IfOk, IfErr, OnErr};
 
+use crate::limits::MOST_PLACING_VERSIONS;
 use crate::line::{base_lines, place_line, released};
 use crate::refusals::{PlaceRefusal, ReleaseRefusal};
-use cspf_book::Book;
+use cspf_book::{AbsorbError, Book, ReleaseError, TakesAll, VersionError};
 use cspf_ero::reply_line;
-use cspf_model::{Batch, MOST_VERSIONS, Request};
+use cspf_model::{Batch, Request};
 use cspf_stream::{BatchAnswer, BatchRefusal, Sink};
 use std::alloc::{AllocError, Global};
 
@@ -42,12 +43,18 @@ impl Sink<()> for BookSink {
         let lost = self.book.lost(alloc, batch)?;
         let version = self.book.version() + 1;
         let lines = base_lines(alloc, &over, &lost, batch.number, version)?;
-        match self.book.try_absorb(batch) {
+        match self.book.try_absorb(&mut TakesAll, &(), alloc, batch) {
             Ok(()) => {
                 self.batches += 1;
                 Ok(Ok(lines))
             }
-            Err(why) => Ok(Err(BatchRefusal::Unfit(why))),
+            Err(error) => match error {
+                VersionError::Book(found) => match found {
+                    AbsorbError::Unfit(why) => Ok(Err(BatchRefusal::Unfit(why))),
+                    AbsorbError::Memory => Err(AllocError),
+                },
+                VersionError::Taker(()) => Err(AllocError),
+            },
         }
     }
 
@@ -91,17 +98,20 @@ impl BookSink {
         ensures same { IfOk result (λ found. OnErr found (self.new.book ≡ self.old.book)) }
         ensures batches { self.new.batches ≡ self.old.batches }
     {
-        if self.book.version() >= MOST_VERSIONS {
+        if self.book.version() >= MOST_PLACING_VERSIONS {
             return Ok(Err(PlaceRefusal::Exhausted));
         }
-        match self.book.place(alloc, request, hold) {
+        match self.book.place(&mut TakesAll, &(), alloc, request, hold) {
             Ok(outcome) => {
                 let line = place_line(alloc, request.id, self.book.version(), &outcome)?;
                 Ok(Ok(line))
             }
-            Err(why) => match PlaceRefusal::of(why) {
-                Some(refusal) => Ok(Err(refusal)),
-                None => Err(AllocError),
+            Err(error) => match error {
+                VersionError::Book(why) => match PlaceRefusal::of(why) {
+                    Some(refusal) => Ok(Err(refusal)),
+                    None => Err(AllocError),
+                },
+                VersionError::Taker(()) => Err(AllocError),
             },
         }
     }
@@ -120,13 +130,19 @@ impl BookSink {
         ensures same { IfOk result (λ found. OnErr found (self.new.book ≡ self.old.book)) }
         ensures batches { self.new.batches ≡ self.old.batches }
     {
-        if self.book.version() >= MOST_VERSIONS {
+        if self.book.version() >= MOST_PLACING_VERSIONS {
             return Ok(Err(ReleaseRefusal::Exhausted));
         }
         let line = released(alloc, id, self.book.version() + 1)?;
-        match self.book.release(id) {
+        match self.book.release(&mut TakesAll, &(), alloc, id) {
             Ok(()) => Ok(Ok(line)),
-            Err(_absent) => Ok(Err(ReleaseRefusal::Absent)),
+            Err(error) => match error {
+                VersionError::Book(why) => match why {
+                    ReleaseError::Absent => Ok(Err(ReleaseRefusal::Absent)),
+                    ReleaseError::Memory => Err(AllocError),
+                },
+                VersionError::Taker(()) => Err(AllocError),
+            },
         }
     }
 }

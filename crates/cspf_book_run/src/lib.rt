@@ -14,6 +14,7 @@ mod book_sink;
 mod error;
 mod kept_rows;
 mod laws;
+mod limits;
 mod line;
 mod refusals;
 mod row_text;
@@ -25,5 +26,6 @@ pub use error::BookError;
 pub use laws::{
     covered_books, kept_is_the_book, one_reply_of_books, sums_stay_small, worked_covers,
 };
+pub use limits::MOST_PLACING_VERSIONS;
 pub use refusals::{PlaceRefusal, ReleaseRefusal};
 pub use run::run_book;

@@ -9,7 +9,7 @@ use std::fmt;
 /// Why a request isn't placed.
 #[derive(Clone, Copy, Debug, PartialEq, Eq)]
 pub enum PlaceRefusal {
-    /// The version is 1,000,000.
+    /// The version is at least `MOST_PLACING_VERSIONS`.
     Exhausted,
     /// The book already has `MOST_PLACEMENTS` placements with other ids.
     Full,
@@ -59,7 +59,7 @@ impl PlaceRefusal {
 /// Why no placement is released.
 #[derive(Clone, Copy, Debug, PartialEq, Eq)]
 pub enum ReleaseRefusal {
-    /// The version is 1,000,000.
+    /// The version is at least `MOST_PLACING_VERSIONS`.
     Exhausted,
     /// No placement has this id.
     Absent,

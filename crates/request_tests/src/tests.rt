@@ -11,6 +11,7 @@ mod objects;
 mod placing;
 mod prefixes;
 mod replies;
+mod taking;
 
 use std::alloc::AllocError;
 use std::process::Abort;

@@ -173,7 +173,7 @@ fn over_by_batches(rt: HostRuntime) {
 fn is_lost_once(alloc: Global, book: &mut Book) -> bool {
     match batch(alloc, &[Drop(THREE, ONE)]) {
         Some(batch) => {
-            let is_absorbed = is_absorbed(book, &batch);
+            let is_absorbed = is_absorbed(alloc, book, &batch);
             is_absorbed
                 && book.placements().len() == 4
                 && are_losses(alloc, book, &[(&[Drop(ONE, THREE)], &[])])

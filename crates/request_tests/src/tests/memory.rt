@@ -1,7 +1,7 @@
 //! Tests a book of placements while memory is refused: a request isn't placed, and the book is
 //! unchanged. When memory is available again, the request is placed. The report of the effect of a
-//! batch on the placements also fails at first, and succeeds when memory is available. Accepting a
-//! batch and releasing a placement allocate no memory.
+//! batch on the placements also fails at first, and succeeds when memory is available. This is also
+//! true of accepting a batch and of releasing a placement.
 
 use super::assert_case;
 use super::networks::Edit::Put;
@@ -75,14 +75,29 @@ fn is_told_at_last(alloc: Global, book: &mut Book, batch: &Batch) -> bool {
     !has_memory(alloc) || told(alloc, book, batch) == Some((3, 1))
 }
 
-/// Tries to place a request, applies the batch, and tries to release the placement. Returns whether
-/// the book accepts the batch, and the release succeeds exactly if the request was placed. At the
-/// end, all bandwidth of the batch's link has to be left.
-fn goes_on(alloc: Global, book: &mut Book, batch: &Batch) -> bool {
-    let is_placed = placed(alloc, book, 1, 600, b"", 5) == Some(Ok(1));
-    let is_absorbed = is_absorbed(book, batch);
-    let is_released = is_released(book, 1);
-    is_absorbed && is_released == is_placed && left(book, ONE, THREE) == [599; 8]
+/// Whether the batch is absorbed in the first or second attempt. If memory is refused in the first
+/// attempt, the book has to be as it was. The result is also true if memory is still refused before
+/// the second attempt.
+fn is_absorbed_at_last(alloc: Global, book: &mut Book, batch: &Batch) -> bool {
+    if is_absorbed(alloc, book, batch) {
+        return book.version() == 2 && left(book, ONE, THREE) == [599; 8];
+    }
+    let is_same = book.version() == 1 && left(book, ONE, THREE) == [1000; 8];
+    is_same && (!has_memory(alloc) || is_absorbed(alloc, book, batch))
+}
+
+/// Whether the placement is released in the first or second attempt. If memory is refused in the
+/// first attempt, the book has to be as it was. The result is also true if the request isn't
+/// placed, or memory is still refused before the second attempt.
+fn is_released_at_last(alloc: Global, book: &mut Book) -> bool {
+    if placed(alloc, book, 1, 600, b"", 5) != Some(Ok(1)) {
+        return true;
+    }
+    if is_released(alloc, book, 1) {
+        return book.version() == 3 && left(book, ONE, THREE) == [1000; 8];
+    }
+    let is_same = book.version() == 2 && is_taken(book) && book.placements().len() == 1;
+    is_same && (!has_memory(alloc) || is_released(alloc, book, 1))
 }
 
 /// A batch that puts the link from 1.1.1.1 to 3.3.3.3 into group 0, with 599 bytes per second at
@@ -102,12 +117,24 @@ fn tells_while_memory_is_refused(rt: HostRuntime) {
     assert_case(&rt, "told without memory", 0, is);
 }
 
+/// If memory is refused for the book itself or the batch, nothing is tested.
 #[test]
-fn absorbs_and_releases_without_memory(rt: HostRuntime) {
+fn absorbs_while_memory_is_refused(rt: HostRuntime) {
     let alloc = rt.alloc();
     let is = match (book(alloc), less(alloc)) {
-        (Some(mut book), Some(batch)) => goes_on(alloc, &mut book, &batch),
+        (Some(mut book), Some(batch)) => is_absorbed_at_last(alloc, &mut book, &batch),
         _ => true,
     };
     assert_case(&rt, "absorbed without memory", 0, is);
+}
+
+/// If memory is refused for the book itself, nothing is tested.
+#[test]
+fn releases_while_memory_is_refused(rt: HostRuntime) {
+    let alloc = rt.alloc();
+    let is = match book(alloc) {
+        Some(mut book) => is_released_at_last(alloc, &mut book),
+        None => true,
+    };
+    assert_case(&rt, "released without memory", 0, is);
 }

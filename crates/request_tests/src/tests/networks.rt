@@ -1,7 +1,7 @@
 //! Helpers for the tests: a triangle of routers, and batches and requests for it.
 
 use cspf_addr::{Addr, Mask, parse_hops};
-use cspf_book::{Book, PlaceError};
+use cspf_book::{Book, PlaceError, TakesAll, VersionError};
 use cspf_model::{Batch, Change, Link, MOST_VERSIONS, Outcome, Request};
 use std::alloc::Global;
 
@@ -116,15 +116,20 @@ pub(super) fn batch(alloc: Global, edits: &[Edit]) -> Option<Batch> {
 
 /// Whether the book accepts the batch and applies it to the book's base, which is the database
 /// without placements.
-pub(super) fn is_absorbed(book: &mut Book, batch: &Batch) -> bool {
-    book.version() < MOST_VERSIONS && book.try_absorb(batch).is_ok()
+pub(super) fn is_absorbed(alloc: Global, book: &mut Book, batch: &Batch) -> bool {
+    book.version() < MOST_VERSIONS && book.try_absorb(&mut TakesAll, &(), alloc, batch).is_ok()
+}
+
+/// The batch of the links of the triangle, or `None` if memory is refused.
+pub(super) fn triangle(alloc: Global) -> Option<Batch> {
+    batch(alloc, TRIANGLE)
 }
 
 /// A book of placements on the database of the triangle, or `None` if memory is refused.
 pub(super) fn book(alloc: Global) -> Option<Book> {
-    let batch = batch(alloc, TRIANGLE)?;
+    let batch = triangle(alloc)?;
     let mut book = Book::new(alloc).ok()?;
-    if is_absorbed(&mut book, &batch) {
+    if is_absorbed(alloc, &mut book, &batch) {
         Some(book)
     } else {
         None
@@ -132,7 +137,7 @@ pub(super) fn book(alloc: Global) -> Option<Book> {
 }
 
 /// A request from 1.1.1.1 to 3.3.3.3 at setup priority 7, over links that aren't in group 0.
-fn request(id: u64, bandwidth: u64, hops: &[u8]) -> Option<Request> {
+pub(super) fn request(id: u64, bandwidth: u64, hops: &[u8]) -> Option<Request> {
     let none = Mask::new(0);
     let (from, to) = (Addr::new(ONE), Addr::new(THREE));
     let hops = parse_hops(hops).ok()?;
@@ -153,16 +158,17 @@ pub(super) fn placed(
     if request.setup != 7 || hold > 7 || book.version() >= MOST_VERSIONS {
         return None;
     }
-    match book.place(alloc, &request, hold) {
+    match book.place(&mut TakesAll, &(), alloc, &request, hold) {
         Ok(Outcome::Route(route)) => Some(Ok(route.links().len())),
         Ok(_) => Some(Ok(0)),
-        Err(why) => Some(Err(why)),
+        Err(VersionError::Book(why)) => Some(Err(why)),
+        Err(VersionError::Taker(())) => None,
     }
 }
 
 /// Releases the placement with this id, and returns whether it was released.
-pub(super) fn is_released(book: &mut Book, id: u64) -> bool {
-    book.version() < MOST_VERSIONS && book.release(id).is_ok()
+pub(super) fn is_released(alloc: Global, book: &mut Book, id: u64) -> bool {
+    book.version() < MOST_VERSIONS && book.release(&mut TakesAll, &(), alloc, id).is_ok()
 }
 
 /// The bandwidth that the placements leave, at each priority, on the link from the first router to

@@ -49,7 +49,7 @@ fn is_answer(alloc: Global, book: &mut Book, step: Step) -> bool {
         Place(id, bandwidth, hold, links) => {
             placed(alloc, book, id, bandwidth, b"", hold) == Some(Ok(links))
         }
-        Release(id, is) => is_released(book, id) == is,
+        Release(id, is) => is_released(alloc, book, id) == is,
     }
 }
 

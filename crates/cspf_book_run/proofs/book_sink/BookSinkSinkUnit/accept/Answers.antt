@@ -16,12 +16,12 @@ returns-in-Ok-clause-accepted c = λ all front.
       refl,
     )
 
-pub returns-clause-refused : goal.returns-clause-refused
-returns-clause-refused c = λ all front.
+pub returns-in-Unfit-clause-refused : goal.returns-in-Unfit-clause-refused
+returns-in-Unfit-clause-refused c = λ all front.
     let batch = c.args.batch.now in (
-      c.in-Err.why,
+      c.in-Unfit.why,
       refl,
-      refusal_whole c.args.self.now.book.base batch.number batch.changes all c.in-Err.why front c.in-Err.ensures.err,
+      refusal_whole c.args.self.now.book.base batch.number batch.changes all c.in-Unfit.why front (rw (c.in-Book.is, c.in-Unfit.is) at c.in-Err.ensures.err).0,
       c.in-Err.ensures.same,
       refl,
     )
