@@ -122,7 +122,16 @@ def known():
     yield "too many rows behind a batch", behind, "base 1 v1\nrow 4 refused: kind\ntoo many rows\n"
     yield "a count of 999,999", "drop,1.1.1.1,10.0.0.1\n" * 999_999 + "end,1,5\n", "batch 1 refused: counted 999999\n"
     yield "a route of 2,048 links, and one more", *longest()
+    yield "the most placings", *placings()
     yield from known_batches()
+
+
+def placings():
+    """Placings and releases up to version 900,000, and rows after it, of which only the base's batch is accepted."""
+    pairs = 449_999
+    lines = "".join(f"place 1 v{2 * at} {DIRECT}\nreleased 1 v{2 * at + 1}\n" for at in range(1, pairs + 1))
+    return BASE + (place(1) + "release,1\n") * pairs + place(1) + place(2) + "release,1\nend,2,0\n", (
+        f"base 1 v1\n{lines}place 1 v900000 {DIRECT}\nplace 2 refused: exhausted\nrelease 1 refused: exhausted\nbase 2 v900001\n")
 
 
 def longest():
