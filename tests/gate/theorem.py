@@ -32,7 +32,8 @@ TIERS = {
         "cspf_rows.specs.BatchText.batch_text",
     ),
     "Publisher and askers": (
-        "cspf_publish::open", "cspf_publish::Publisher::apply", "cspf_publish::Publisher::tell", "cspf_publish::Publisher::close",
+        "cspf_publish::open", "cspf_publish::Publisher::apply", "cspf_publish::Publisher::prepare", "cspf_publish::Publisher::publish",
+        "cspf_publish::Publisher::tell", "cspf_publish::Publisher::close",
         "cspf_publish::Asker::ask", "cspf_publish::Asker::learn", "cspf_publish::Asker::meet", "cspf_client::ServingClient::meet",
         "cspf_publish.specs.ReplicaRule.HoldsBetweenSteps", "cspf_publish.specs.ReplicaRule.Publishes",
         "cspf_publish.specs.ReplicaRule.Enters", "cspf_publish.specs.ReplicaRule.Opens",

@@ -1,9 +1,12 @@
 """What `routed book --keep` leaves: the accepted rows, each before its lines, from which `routed book` makes the same book.
 
-Streams with known lines and drawn ones, a file that is full after each byte, calls that are refused, and runs that are killed.
+Streams with known lines and drawn ones, a file that is full after each byte, calls that are refused, and runs that are killed. If the
+file is full, the row is refused by `keep W`, and later rows that could change the book by `stopped`.
 """
+import math
 import os
 import random
+import re
 import resource
 import subprocess
 import tempfile
@@ -11,7 +14,7 @@ import threading
 import time
 
 from program.refusal import COMPILER, Refuser, each
-from program.refused import REFUSALS, is_stopped
+from program.refused import CAUSES, REFUSALS, is_stopped
 from reference import books
 
 KILLS = 100
@@ -24,11 +27,12 @@ def held(path):
 
 
 class Kept:
-    """What a run over some rows has to write: its status, and for each row its lines and what is kept of it."""
+    """What a run over some rows has to write: its status, and for each row its lines and what is kept of it. `room` is how many bytes the
+    file takes."""
 
-    def __init__(self, rows):
+    def __init__(self, rows, room=math.inf):
         self.rows = rows if isinstance(rows, bytes) else rows.encode("latin-1")
-        self.status, found = books.steps(self.rows.decode("latin-1"))
+        self.status, found = books.steps(self.rows.decode("latin-1"), room)
         self.steps = [("".join(f"{line}\n" for line in lines).encode(), text.encode()) for lines, text in found]
         self.lines = b"".join(lines for lines, _ in self.steps)
         self.text = b"".join(text for _, text in self.steps)
@@ -127,15 +131,15 @@ def refused_files(program, checks):
 
 
 def full(program, checks, name, rows):
-    """A file that is full after each byte: the run stops before the lines of the row that isn't kept whole."""
-    kept, faults = Kept(rows), []
+    """A file that is full after each byte: the row that isn't kept whole is refused, and requests after it are answered."""
+    whole, faults = Kept(rows), []
     with tempfile.TemporaryDirectory() as room:
-        for size in range(len(kept.text) + 1):
-            found = ran(program, room, kept.rows, "--explain", preexec_fn=lambda: resource.setrlimit(resource.RLIMIT_FSIZE, (size, size)))
-            said = f"routed: keep {room}/kept: write: file too large\n".encode() + STOPPED
-            wanted = (kept.status, kept.lines, b"", kept.text) if size == len(kept.text) else (3, kept.lines_before(size), said,
-                                                                                               kept.text[:size])
-            if found != wanted:
+        for size in range(len(whole.text) + 1):
+            kept, words = Kept(rows, size), ["--explain"] * (size % 2)
+            found = ran(program, room, kept.rows, *words, preexec_fn=lambda: resource.setrlimit(resource.RLIMIT_FSIZE, (size, size)))
+            said = f"routed: keep {room}/kept: write: file too large\n".encode() if words and size < len(whole.text) else b""
+            wanted = kept.status, kept.lines, said, whole.text[:size]
+            if found != wanted or kept.text != whole.text[:size]:
                 faults.append((size, found, wanted))
     checks.same(f"kept of {name} in a file that is full", faults[:1], [])
 
@@ -158,12 +162,23 @@ class Run:
             os.remove(path)
         kept = self.kept
         whole = (found.status, found.out, found.err, text) == (kept.status, kept.lines, b"", kept.text)
-        part = is_stopped(found, flags) and kept.is_part(found.out, text)
+        part = is_stopped(found, flags) and kept.is_part(found.out, text) or self.is_cut(found, text, flags)
         is_as_ever, is_full = found.refused == 0 or "short" in flags, flags in (("write",), ("write", "on"))
         fault = found.fault()
         if fault is None and not (whole if is_as_ever else (whole or part) and not (whole and is_full)):
             fault = f"status {found.status}, {found.out[-200:]}, {found.err[-200:]}, {text[-200:]}"
         return found.refused != 0, fault
+
+
+    def is_cut(self, found, text, flags):
+        """Whether a write to the file failed, and the lines are as they have to be then. With `on` no line can be written either."""
+        cut = Kept(self.kept.rows, len(text))
+        if flags[0] != "write" or "short" in flags or cut.text != text or text == self.kept.text:
+            return False
+        said = CAUSES["break" if "break" in flags else "write"]
+        if "on" in flags:
+            return cut.lines.startswith(found.out) and is_stopped(found, flags, b"(" + said + b")?")
+        return (found.status, found.out) == (cut.status, cut.lines) and re.fullmatch(said, found.err) is not None
 
 
 def refused_calls(program, checks, rows):

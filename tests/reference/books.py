@@ -3,7 +3,9 @@
 Small and slow on purpose; nothing in it is taken from the program.
 """
 import collections
+import copy
 import functools
+import math
 
 from reference import formats, runs
 from reference.formats import Network, Refused, address_text
@@ -173,31 +175,41 @@ class Book:
         return f"released {name} v{self.version}"
 
 
-def steps(rows):
-    """The status of a run, and for each row its lines and what `--keep` has of it; the last line comes after them."""
-    book, changes, found, is_refused = Book(), [], [], False
+def steps(rows, room=math.inf):
+    """The status of a run, and for each row its lines and what is written to `--keep` for it; the last line comes after them. `room` is how
+    many bytes the file of `--keep` takes: the row that has more than it takes is refused, and after it each row that could change the book.
+    """
+    book, changes, found, is_refused, is_stopped = Book(), [], [], False, False
     for at, fields in enumerate(formats.records(rows), 1):
         if at > MOST_ROWS:
             return 2, [*found, (["too many rows"], "")]
-        subject, version, lines, text = f"row {at}", book.version, [], ",".join(fields) + "\n"
+        subject, before, lines, text, kept = f"row {at}", copy.copy(book), [], ",".join(fields) + "\n", ""
         try:
             kind, content = row(fields)
+            if kind == "end":
+                subject, open_ones, changes = f"batch {content['number']}", changes, []
+            elif kind in ("place", "release"):
+                subject = f"{kind} {content['id']}"
+            if is_stopped and kind in ("end", "place", "release"):
+                raise Refused("stopped")
             if kind in ("put", "drop", "node"):
                 changes.append((kind, content))
             elif kind == "end":
-                subject, open_ones, changes = f"batch {content['number']}", changes, []
                 lines, text = book.end(open_ones, content), runs.batch_text(content["number"], open_ones)
             elif kind == "ask":
                 lines = [book.ask(content)]
             elif kind == "place":
-                subject = f"place {content['id']}"
                 lines = [book.place(content)]
             else:
-                subject = f"release {content['id']}"
                 lines = [book.release(content["id"])]
+            if book.version > before.version:
+                if len(text) > room:
+                    book, kept, is_stopped = before, text[:room], True
+                    raise Refused(f"keep {room}")
+                kept, room = text, room - len(text)
         except Refused as words:
             lines, is_refused = [f"{subject} refused: {words}"], True
-        found.append((lines, text if book.version > version else ""))
+        found.append((lines, kept))
     last = [([f"unended {len(changes)}"], "")] if changes else []
     return 2 if is_refused or changes else 0, found + last
 

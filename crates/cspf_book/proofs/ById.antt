@@ -14,7 +14,7 @@ use Rattle.cspf_book.specs.declared.versions.Ids.{Ids}
 use Rattle.cspf_book.specs.declared.placement.Placement.{Placement}
 use Rattle.cspf_book.specs.Placements.{id_of, index_of_id}
 use Rattle.cspf_book.specs.RouterBits.{bits_of}
-use Rattle.cspf_book.specs.Inside.{HaveDistinctIds}
+use Rattle.cspf_book.specs.PlacedRoutes.{HaveDistinctIds}
 use Rattle.cspf_book.specs.ById.{IsRising, version_of, entered, IsIndexIn, AreIdsOf, HasSameIds, HasEntered, HasReplaced, HasForgotten}
 use Rattle.cspf_book.proofs.RouterBits.{bits-remove}
 

@@ -8,7 +8,7 @@ use Rattle.std.proofs.lemmas.List.Sums.{prefix_len-le-length}
 use Rattle.std.proofs.lemmas.Map.Keys.{IsDistinct-head, IsDistinct-tail, IsDistinct-push}
 use Rattle.cspf_book.specs.declared.placement.Placement.{Placement}
 use Rattle.cspf_book.specs.Placements.{id_of, has_id, others, index_of_id}
-use Rattle.cspf_book.specs.Inside.{HaveDistinctIds}
+use Rattle.cspf_book.specs.PlacedRoutes.{HaveDistinctIds}
 
 -- Removing at an index past the last placement changes nothing.
 pub remove-behind : (placements : List Placement) (at : ℕ) → length placements ≤ at → remove placements at ≡ placements

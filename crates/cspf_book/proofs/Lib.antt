@@ -19,11 +19,14 @@ pub mod TwiceUsed
 pub mod Covered
 pub mod TableLimits
 pub mod StateParts
+pub mod SteppedPaths
+pub mod Restored
 pub mod Placing
 pub mod ChangedBases
 pub mod RouteWalks
 pub mod LostRanks
 pub mod OverLists
+pub mod MadeOver
 pub mod OneLostList
 pub mod UntouchedRoutes
 pub mod KeptSums

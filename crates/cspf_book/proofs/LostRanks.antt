@@ -18,7 +18,7 @@ use Rattle.cspf_book.specs.declared.placement.Placement.{Placement}
 use Rattle.cspf_book.specs.Placements.{id_of}
 use Rattle.cspf_book.specs.LostRoutes.{IsLost, ComesBefore, AreLost}
 use Rattle.cspf_book.specs.Following.{HaveOtherIds, order_rank, AreRanksOfLost}
-use Rattle.cspf_book.specs.Inside.{HaveDistinctIds}
+use Rattle.cspf_book.specs.PlacedRoutes.{HaveDistinctIds}
 
 -- If the ids of the placements are distinct as a list, any two of the placements have different
 -- ids.

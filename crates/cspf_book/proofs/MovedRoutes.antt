@@ -8,7 +8,7 @@ use Rattle.cspf_model.specs.Database.{Database, Key}
 use Rattle.cspf_book.specs.declared.placement.Placement.{Placement}
 use Rattle.cspf_book.specs.Placements.{has_key, counted, id_of, others, index_of_id}
 use Rattle.cspf_book.specs.Alike.{IsWithinLimits}
-use Rattle.cspf_book.specs.Inside.{IsOwnRoute, HaveOwnRoutes, HaveDistinctIds}
+use Rattle.cspf_book.specs.PlacedRoutes.{IsOwnRoute, HaveOwnRoutes, HaveDistinctIds, ConnectsItsEnds, ConnectTheirEnds}
 use Rattle.cspf_book.specs.Leading.{route_in, route_of, moved_batch, IsMoveBatch}
 use Rattle.cspf_book.proofs.Currents.{counted-remove, counted-push}
 use Rattle.cspf_book.proofs.Ids.{remove-index_of, remove-behind}
@@ -39,6 +39,16 @@ pub own_routes-placed : (id : ℕ) (placements : List Placement) (p : Placement)
     → HaveOwnRoutes (others id placements ++ p ∷ [])
 own_routes-placed id placements p own its =
     all_append (λ q. IsOwnRoute q.route) (others id placements) (p ∷ []) (own_routes-others id placements own) (its, tt)
+
+-- Routes that lead from the head-ends to the tail-ends still do so after a release or a placing.
+pub ends-others : (id : ℕ) (placements : List Placement) → ConnectTheirEnds placements → ConnectTheirEnds (others id placements)
+ends-others id placements ends =
+    all_filter ConnectsItsEnds (λ p. not (nat_eq (id_of p) id)) placements ends
+
+pub ends-placed : (id : ℕ) (placements : List Placement) (p : Placement) → ConnectTheirEnds placements → ConnectsItsEnds p
+    → ConnectTheirEnds (others id placements ++ p ∷ [])
+ends-placed id placements p ends its =
+    all_append ConnectsItsEnds (others id placements) (p ∷ []) (ends-others id placements ends) (its, tt)
 
 -- After a release, no placement has the id, so there is no route.
 pub route_of-others : (id : ℕ) (placements : List Placement) → route_of id (others id placements) ≡ []

@@ -16,13 +16,17 @@ use Rattle.cspf_model.proofs.Databases.LastChanges.{link_at-after_change}
 use Rattle.cspf_book.specs.declared.over.Over.{Over}
 use Rattle.cspf_book.specs.declared.placement.Placement.{Placement}
 use Rattle.cspf_book.specs.Placements.{counted}
-use Rattle.cspf_book.specs.OverLinks.{priorities, is_over, over_at, over_on, over_by, over}
+use Rattle.cspf_book.specs.OverLinks.{priorities, is_over, over_at, over_by, over}
 use Rattle.cspf_book.specs.Laws.{AbsorbingKeepsCovered}
+
+-- the entries for a link at the priorities below n that pass a test
+abbrev pub entries_up_to : (ℕ → Bool) → Link → ℕ → List Over
+entries_up_to test l n = map (over_at l) (filter test (range_with_len 0 n))
 
 -- the entries of `over_on` for the priorities below n: those at which the link has less bandwidth
 -- than is counted on it
 abbrev pub over_up_to : List Placement → Link → ℕ → List Over
-over_up_to placements l n = map (over_at l) (filter (is_over placements l) (range_with_len 0 n))
+over_up_to placements l n = entries_up_to (is_over placements l) l n
 
 -- The list of the numbers from 0 to n is the list of the numbers below n, followed by n.
 range_with_len-more : (n : ℕ) → range_with_len 0 (n + 1) ≡ range_with_len 0 n ++ n ∷ []
@@ -30,12 +34,31 @@ range_with_len-more n =
     sym (map-id (range_with_len 0 (n + 1))) ∙ map-range_with_len_more (λ k. k) 0 n n (omega arith)
     ∙ ap (λ ks. ks ++ n ∷ []) (map-id (range_with_len 0 n))
 
-over_up_to-more : (placements : List Placement) (l : Link) (n : ℕ)
-    → over_up_to placements l (n + 1) ≡ over_up_to placements l n ++ map (over_at l) (filter (is_over placements l) (n ∷ []))
-over_up_to-more placements l n =
-    ap (λ ks. map (over_at l) (filter (is_over placements l) ks)) (range_with_len-more n)
-    ∙ ap (map (over_at l)) (filter-append (is_over placements l) (range_with_len 0 n) (n ∷ []))
-    ∙ map-append (over_at l) (filter (is_over placements l) (range_with_len 0 n)) (filter (is_over placements l) (n ∷ []))
+entries-more : (test : ℕ → Bool) (l : Link) (n : ℕ)
+    → entries_up_to test l (n + 1) ≡ entries_up_to test l n ++ map (over_at l) (filter test (n ∷ []))
+entries-more test l n =
+    ap (λ ks. map (over_at l) (filter test ks)) (range_with_len-more n)
+    ∙ ap (map (over_at l)) (filter-append test (range_with_len 0 n) (n ∷ []))
+    ∙ map-append (over_at l) (filter test (range_with_len 0 n)) (filter test (n ∷ []))
+
+-- If priority n passes the test, `entries_up_to` lists the same entries for n + 1 as for n, followed
+-- by an entry for priority n.
+pub entry_listed : (test : ℕ → Bool) (l : Link) (n : ℕ) (start list : List Over) → test n ≡ true → list ≡ start ++ entries_up_to test l n
+    → list ++ over_at l n ∷ [] ≡ start ++ entries_up_to test l (n + 1)
+entry_listed test l n start list passes so_far =
+    ap (λ os. os ++ over_at l n ∷ []) so_far
+    ∙ append_assoc start (entries_up_to test l n) (over_at l n ∷ [])
+    ∙ ap (λ os. start ++ os)
+    (sym (entries-more test l n ∙ ap (λ b. entries_up_to test l n ++ map (over_at l) (cond b (n ∷ []) [])) passes))
+
+-- If priority n doesn't pass the test, `entries_up_to` lists the same entries for n + 1 as for n.
+pub entry_passed : (test : ℕ → Bool) (l : Link) (n : ℕ) (start list : List Over) → test n ≡ false → list ≡ start ++ entries_up_to test l n
+    → list ≡ start ++ entries_up_to test l (n + 1)
+entry_passed test l n start list fails so_far =
+    so_far
+    ∙ ap (λ os. start ++ os)
+    (sym (entries-more test l n ∙ ap (λ b. entries_up_to test l n ++ map (over_at l) (cond b (n ∷ []) [])) fails
+    ∙ append-nil (entries_up_to test l n)))
 
 -- Let a link have less bandwidth at priority n than the placements count on it. Then `over_up_to`
 -- lists the same entries for n + 1 as for n, followed by an entry for priority n.
@@ -43,10 +66,7 @@ pub over_listed : (placements : List Placement) (l : Link) (n : ℕ) (start list
     → slice_index l.free n < counted placements (key_of l) n → list ≡ start ++ over_up_to placements l n
     → list ++ over_at l n ∷ [] ≡ start ++ over_up_to placements l (n + 1)
 over_listed placements l n start list less so_far =
-    ap (λ os. os ++ over_at l n ∷ []) so_far
-    ∙ append_assoc start (over_up_to placements l n) (over_at l n ∷ [])
-    ∙ ap (λ os. start ++ os)
-    (sym (over_up_to-more placements l n ∙ ap (λ b. over_up_to placements l n ++ map (over_at l) (cond b (n ∷ []) [])) (lt-ltb (slice_index l.free n) (counted placements (key_of l) n) less)))
+    entry_listed (is_over placements l) l n start list (lt-ltb (slice_index l.free n) (counted placements (key_of l) n) less) so_far
 
 -- Let a link have enough bandwidth at priority n for the placements. Then `over_up_to` lists the
 -- same entries for n + 1 as for n.
@@ -54,10 +74,7 @@ pub over_passed : (placements : List Placement) (l : Link) (n : ℕ) (start list
     → counted placements (key_of l) n ≤ slice_index l.free n → list ≡ start ++ over_up_to placements l n
     → list ≡ start ++ over_up_to placements l (n + 1)
 over_passed placements l n start list enough so_far =
-    so_far
-    ∙ ap (λ os. start ++ os)
-    (sym (over_up_to-more placements l n ∙ ap (λ b. over_up_to placements l n ++ map (over_at l) (cond b (n ∷ []) [])) (le-ltb (slice_index l.free n) (counted placements (key_of l) n) enough)
-    ∙ append-nil (over_up_to placements l n)))
+    entry_passed (is_over placements l) l n start list (le-ltb (slice_index l.free n) (counted placements (key_of l) n) enough) so_far
 
 -- A filtered list contains each element of the list that passes the test.
 Contains-filter : {A : Type 0} (p : A → Bool) (xs : List A) (x : A) → Contains xs x → p x ≡ true → Contains (filter p xs) x
@@ -79,12 +96,12 @@ Contains-map f xs x (k, within, is) =
 Contains-priorities : (n : ℕ) → n < 8 → Contains priorities n
 Contains-priorities n small = (n, small, get_or-range_with_len 0 8 n n small ∙ zero-add n)
 
--- If a link has less bandwidth at a priority than is counted on it, `over_on` has an entry for the
--- link and this priority.
-named : (placements : List Placement) (l : Link) (priority : ℕ) → priority < 8 → is_over placements l priority ≡ true
-    → Contains (over_on placements l) (over_at l priority)
-named placements l priority small passes =
-    Contains-map (over_at l) (filter (is_over placements l) priorities) priority (Contains-filter (is_over placements l) priorities priority (Contains-priorities priority small) passes)
+-- If a priority passes a test, the entries of a link at the priorities that pass it have an entry for
+-- this priority.
+pub named : (test : ℕ → Bool) (l : Link) (priority : ℕ) → priority < 8 → test priority ≡ true
+    → Contains (map (over_at l) (filter test priorities)) (over_at l priority)
+named test l priority small passes =
+    Contains-map (over_at l) (filter test priorities) priority (Contains-filter test priorities priority (Contains-priorities priority small) passes)
 
 -- If a database has a link after one change, it had the link before, or the change sets it (`Put`).
 put_by_one : (d : Database) (c : Change) (l : Link) → link_at (after_change d c) (key_of l) ≡ Some l → (link_at d (key_of l) ≡ Some l) ⊎ (c ≡ Put l)
@@ -111,7 +128,7 @@ over_or_kept d placements (c ∷ cs) l priority small passes is =
       | inl there ↦
           elim (put_by_one d c l there) [
             | inl before ↦ inl before
-            | inr put ↦ inr (Contains-append_left (over_by placements c) (over placements cs) (over_at l priority) (rw put (named placements l priority small passes)))
+            | inr put ↦ inr (Contains-append_left (over_by placements c) (over placements cs) (over_at l priority) (rw put (named (is_over placements l) l priority small passes)))
           ]
       | inr later ↦ inr (Contains-append_right (over_by placements c) (over placements cs) (over_at l priority) later)
     ]

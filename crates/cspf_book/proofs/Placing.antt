@@ -1,5 +1,5 @@
 -- How placing a request changes a book.
-use Rattle.std.proofs.Common.{◌≡◌, ℕ, ◌+◌, ◌-◌, ◌*◌, ◌^◌, ◌<◌, ◌≤◌, Some, List, [], ◌∷◌, ◌++◌, length, remove, ap, subst, ◌∙◌, arith}
+use Rattle.std.proofs.Common.{◌≡◌, ℕ, ◌+◌, ◌-◌, ◌*◌, ◌^◌, ◌<◌, ◌≤◌, Option, Some, None, List, [], ◌∷◌, ◌++◌, length, remove, refl, ap, subst, ◌∙◌, arith}
 use Rattle.std.proofs.lemmas.List.{length-map}
 use Rattle.cspf_model.specs.declared.limits.TheConstants.{MOST_VERSIONS}
 use Rattle.cspf_model.specs.declared.request.Request.{Request}
@@ -12,13 +12,14 @@ use Rattle.cspf_book.specs.Placements.{passed_of, others, counted, index_of_id}
 use Rattle.cspf_model.specs.Database.{Database, Key}
 use Rattle.cspf_book.specs.declared.counts.Counts.{Counts}
 use Rattle.cspf_book.specs.Effective.{effective}
-use Rattle.cspf_book.specs.Inside.{HaveDistinctIds}
+use Rattle.cspf_book.specs.PlacedRoutes.{HaveDistinctIds}
 use Rattle.cspf_book.specs.Kept.{IsCountOf, AreSmall, HasSameSums}
 use Rattle.cspf_book.specs.BookState.{BookState, effective_beside, IsAnswerPlaced, IsPlaceError, HasRoomFor, links_placed}
 use Rattle.cspf_book.specs.Offers.{IsOffered, IsOfferRefused}
 use Rattle.cspf_book.proofs.Covered.{counted-others}
 use Rattle.cspf_book.proofs.Ids.{index_of-le, remove-index_of, few_kept}
 use Rattle.cspf_book.proofs.KeptSums.{sums_small}
+use Rattle.cspf_book.proofs.StateParts.{state_of}
 
 -- A placement that is offered for an answer to a request is a placement of this request. Its route
 -- has at most `room` links.
@@ -48,6 +49,20 @@ answer_placed old new q hold room (route walk) p (own, its, short, few) left pla
   base = base;
   version = version;
 }
+
+-- For an answer with its offer there is a book that the answer makes (`IsAnswerPlaced`).
+pub may_be_placed : (old : BookState) (q : Request) (hold room : ℕ) (a : Answer) (o : Option Placement) → IsOffered q hold room a o
+    → links_placed (others q.id old.placements) + room ≡ MOST_ROUTES_LINKS → (new : BookState) × IsAnswerPlaced old q hold a new
+may_be_placed old q hold room unknown_from None off left = (old, refl)
+may_be_placed old q hold room unknown_from (Some p) off left = absurd off
+may_be_placed old q hold room unknown_to None off left = (old, refl)
+may_be_placed old q hold room unknown_to (Some p) off left = absurd off
+may_be_placed old q hold room no_route None off left = (old, refl)
+may_be_placed old q hold room no_route (Some p) off left = absurd off
+may_be_placed old q hold room (route walk) None off left = absurd off
+may_be_placed old q hold room (route walk) (Some p) off left =
+    let new = state_of old.base (old.version + 1) (others q.id old.placements ++ p ∷ []) in
+    (new, answer_placed old new q hold room (route walk) p off left refl refl refl)
 
 -- If no placement is offered for a request because of `why`, this is also the error with which the
 -- book doesn't place the request (`IsPlaceError`).

@@ -18,7 +18,7 @@ use Rattle.cspf_book.specs.Placements.{passed_of, id_of, has_id, others}
 use Rattle.cspf_book.specs.Effective.{effective}
 use Rattle.cspf_book.specs.Alike.{IsWithinLimits}
 use Rattle.cspf_book.specs.BookState.{BookState, HasRoomFor, links_placed}
-use Rattle.cspf_book.specs.Inside.{IsOwnRoute, HaveOwnRoutes, HaveDistinctIds}
+use Rattle.cspf_book.specs.PlacedRoutes.{IsOwnRoute, HaveOwnRoutes, HaveDistinctIds}
 use Rattle.cspf_book.specs.Leading.{moved_batch, route_of, IsMoveBatch}
 use Rattle.cspf_book.specs.Takings.{IsPlacingTaken, IsUnplaced, IsUnreleased}
 use Rattle.cspf_book.specs.Offers.{IsOffered}
@@ -82,6 +82,7 @@ module _ {S E : Type 0} (refuses : S → NumberedChanges → E → S → Type 0)
   unplaced q hold room few left (Book why) (refused, same) = (place_error (state_of base version placements) q room why few left refused, same)
   unplaced q hold room few left (Taker why) (walk, p, best, offered, refused) =
       let t = state_of base (version + 1) (others q.id placements ++ p ∷ []) in record {
+        room = few;
         walk = walk;
         best = best;
         t = t;

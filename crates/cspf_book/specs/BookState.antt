@@ -15,8 +15,8 @@ use Rattle.cspf_book.specs.Placements.{passed_of, others}
 use Rattle.cspf_book.specs.Effective.{effective}
 
 -- The state of a book: the base, the version, and the placements in the order in which they were
--- placed. The version is the number of accepted base batches, placements and releases, taken
--- together.
+-- placed or restored. The version is the number of accepted base batches, placements, releases and
+-- restored placements, taken together.
 pub record BookState : Type 0 where
   pub base : Database
   pub version : ℕ

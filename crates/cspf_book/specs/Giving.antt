@@ -12,6 +12,8 @@ use Rattle.cspf_book.specs.declared.error.PlaceError.{PlaceError}
 use Rattle.cspf_book.specs.declared.error.PlaceError.TheVariants as unplaced
 use Rattle.cspf_book.specs.declared.error.ReleaseError.{ReleaseError}
 use Rattle.cspf_book.specs.declared.error.ReleaseError.TheVariants as unreleased
+use Rattle.cspf_book.specs.declared.error.RestoreError.{RestoreError}
+use Rattle.cspf_book.specs.declared.error.RestoreError.TheVariants as unrestored
 use Rattle.cspf_book.specs.declared.error.VersionError.{VersionError}
 use Rattle.cspf_book.specs.declared.error.VersionError.TheVariants as error
 use Rattle.cspf_book.specs.Leading.{moved_batch}
@@ -30,6 +32,13 @@ abbrev pub IsReleaseNotGiven : {S E : Type 0} → (S → NumberedChanges → E �
 IsReleaseNotGiven refuses before b (error.Book unreleased.Memory) after = after ≡ before
 IsReleaseNotGiven refuses before b (error.Book other) after = ⊥
 IsReleaseNotGiven refuses before b (error.Taker why) after = refuses before b why after
+
+-- Why the batch of a restored placement isn't taken: memory is refused, and the taker is unchanged,
+-- or the taker refuses the batch.
+abbrev pub IsRestoringNotGiven : {S E : Type 0} → (S → NumberedChanges → E → S → Type 0) → S → NumberedChanges → VersionError RestoreError E → S → Type 0
+IsRestoringNotGiven refuses before b (error.Book unrestored.Memory) after = after ≡ before
+IsRestoringNotGiven refuses before b (error.Book other) after = ⊥
+IsRestoringNotGiven refuses before b (error.Taker why) after = refuses before b why after
 
 -- Why no placement of a request is given to the taker. `d` is the database of the search, and
 -- `room` the number of links that are left of the limit. Either no placement is offered

@@ -1,6 +1,6 @@
 -- Laws of the bandwidths that placements count, and of effective databases. An effective database
 -- is a base with the bandwidth that the placements leave on its links.
-use Rattle.std.specs.Prelude.{◌≡◌, ◌⊎◌, ℕ, zero, suc, ◌<◌, ◌≤◌, min, List, [], ◌∷◌, ◌++◌, Contains, map, slice_index}
+use Rattle.std.specs.Prelude.{◌≡◌, ◌⊎◌, ℕ, zero, suc, ◌+◌, ◌<◌, ◌≤◌, min, List, [], ◌∷◌, ◌++◌, Contains, length, map, slice_index}
 use Rattle.std.specs.Option.{option_map}
 use Rattle.cspf_model.specs.declared.link.Link.{Link}
 use Rattle.cspf_model.specs.Database.{Database, Key, key_of, link_at, IsLinkOf}
@@ -11,7 +11,11 @@ use Rattle.cspf_book.specs.declared.placement.Placement.{Placement}
 use Rattle.cspf_book.specs.Placements.{passed_of, id_of, others, counted}
 use Rattle.cspf_book.specs.Effective.{effective_link, effective}
 use Rattle.cspf_book.specs.Leading.{effective_change}
-use Rattle.cspf_book.specs.OverLinks.{over_at, over}
+use Rattle.cspf_book.specs.OverLinks.{over_at, over, made_over}
+use Rattle.cspf_book.specs.BookState.{BookState}
+use Rattle.cspf_book.specs.PathsFrom.{path_from, passed_step}
+use Rattle.cspf_book.specs.PlacedRoutes.{ConnectTheirEnds, ArePlaced}
+use Rattle.cspf_book.specs.Restoring.{AreRestored}
 use Rattle.cspf_book.specs.LostRoutes.{AreLost}
 
 -- The effective bandwidths of a link never rise from priority 0 to priority 7.
@@ -78,6 +82,24 @@ AbsorbingKeepsCovered =
     (base : Database) (placements : List Placement) (changes : List Change) (l : Link) (priority : ℕ)
     → IsLinkOf (after_changes base changes) l → priority < 8
     → IsLinkOf base l ⊎ (IsCovered placements l priority ⊎ Contains (over placements changes) (over_at l priority))
+
+-- If a link is covered (`IsCovered`) before a placement is restored, and isn't afterwards, the list
+-- `made_over` has the link with this priority. The other links of the base stay covered.
+abbrev pub RestoringKeepsCovered : Type 0
+RestoringKeepsCovered =
+    (base : Database) (placements : List Placement) (p : Placement) (l : Link) (priority : ℕ)
+    → IsLinkOf base l → priority < 8 → IsCovered placements l priority
+    → IsCovered (placements ++ p ∷ []) l priority ⊎ Contains (made_over base placements p) (over_at l priority)
+
+-- A book's placements may be restored in their order in a book that has its base and no placements
+-- (`AreRestored`). Then this book has its placements. Each route is the path from the head-end along
+-- the steps of its links.
+pub record CompactIsTheBook : Type 0 where
+  pub restored : (s : BookState) (version : ℕ) → ArePlaced s.placements
+      → AreRestored (record { base = s.base; version = version; placements = [] }) s.placements
+      (record { base = s.base; version = version + length s.placements; placements = s.placements })
+  pub routes : (placements : List Placement) → ConnectTheirEnds placements
+      → map (λ p. path_from p.request.from (map passed_step p.route)) placements ≡ map (λ p. p.route) placements
 
 -- For two databases there is only one list of the ids of placements that lose their routes
 -- (`AreLost`).

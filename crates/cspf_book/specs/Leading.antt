@@ -1,6 +1,6 @@
 -- The batches by which a book gives its versions away: each version's batch makes the effective
 -- database of that version from the effective database of the version before.
-use Rattle.std.specs.Prelude.{◌≡◌, ◌+◌, ℕ, Option, Some, None, List, [], ◌∷◌, ◌++◌, filter, find, map, nat_eq, not}
+use Rattle.std.specs.Prelude.{◌≡◌, ◌+◌, ℕ, Option, Some, None, List, [], ◌∷◌, ◌++◌, filter, map, not}
 use Rattle.std.specs.List.{flat_map}
 use Rattle.cspf_model.specs.declared.link.Link.{Link}
 use Rattle.cspf_model.specs.declared.batch.Change.{Change}
@@ -10,7 +10,7 @@ use Rattle.cspf_model.specs.Changes.{after_changes, Fits}
 use Rattle.cspf_model.specs.Database.{Database, Key, link_at}
 use Rattle.cspf_book.specs.declared.path.Passed.{Passed}
 use Rattle.cspf_book.specs.declared.placement.Placement.{Placement}
-use Rattle.cspf_book.specs.Placements.{key_passed, has_key, id_of}
+use Rattle.cspf_book.specs.Placements.{key_passed, has_key, placement_of}
 use Rattle.cspf_book.specs.Effective.{effective_link, effective}
 use Rattle.cspf_book.specs.BookState.{BookState}
 
@@ -55,7 +55,7 @@ route_in (Some p) = p.route
 
 -- the route of the placement with this id; no links if no placement has the id
 abbrev pub route_of : ℕ → List Placement → List Passed
-route_of id placements = route_in (find (λ p. nat_eq (id_of p) id) placements)
+route_of id placements = route_in (placement_of id placements)
 
 -- The batch leads from the book `s` to the book `t`, which has the next version. The batch's number
 -- is this version. The batch fits the effective database of `s`, and makes the effective database

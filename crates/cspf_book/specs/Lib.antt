@@ -1,11 +1,15 @@
 -- Definitions of counted bandwidth, the effective database and the book, and their laws.
+pub mod PathsFrom
 pub mod Placements
 pub mod Effective
 pub mod Alike
 pub mod BookState
+pub mod PlacedRoutes
 pub mod Leading
 pub mod Takings
+pub mod Restoring
 pub mod OverLinks
+pub mod LinkFigures
 pub mod LostRoutes
 pub mod Following
 pub mod RouterBits

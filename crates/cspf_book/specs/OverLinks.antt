@@ -1,14 +1,14 @@
--- The links on which, after changes of the base, the placements hold more bandwidth than the links
--- have.
-use Rattle.std.specs.Prelude.{ℕ, Bool, List, [], ◌∷◌, filter, map, nat_lt, slice_index}
+-- The links on which, after changes of the base or with one more placement, the placements hold
+-- more bandwidth than the links have.
+use Rattle.std.specs.Prelude.{ℕ, Bool, ◌&&◌, not, Option, Some, None, List, [], ◌∷◌, ◌++◌, filter, map, nat_lt, slice_index}
 use Rattle.std.specs.List.{flat_map}
 use Rattle.cspf_model.specs.declared.link.Link.{Link}
 use Rattle.cspf_model.specs.declared.batch.Change.{Change}
 use Rattle.cspf_model.specs.declared.batch.Change.TheVariants.{Put, Remove, Node}
-use Rattle.cspf_model.specs.Database.{key_of}
+use Rattle.cspf_model.specs.Database.{Database, key_of, link_at}
 use Rattle.cspf_book.specs.declared.over.Over.{Over}
 use Rattle.cspf_book.specs.declared.placement.Placement.{Placement}
-use Rattle.cspf_book.specs.Placements.{counted}
+use Rattle.cspf_book.specs.Placements.{key_passed, counted}
 
 -- the priorities 0 to 7
 abbrev pub priorities : List ℕ
@@ -39,3 +39,22 @@ over_by placements (Node router transit) = []
 -- for each priority at which the link has less bandwidth than the placements count on it.
 abbrev pub over : List Placement → List Change → List Over
 over placements changes = flat_map (over_by placements) changes
+
+-- At this priority, the link's unreserved bandwidth is enough for the bandwidth that the placements
+-- count on the link's key. With the placement `p` it is too little.
+abbrev pub is_made_over : List Placement → Placement → Link → ℕ → Bool
+is_made_over placements p l priority =
+    not (is_over placements l priority) && is_over (placements ++ p ∷ []) l priority
+
+-- one entry for each priority at which `is_made_over` is true of the link, from priority 0 to 7; no
+-- entries if there is no link
+abbrev pub made_over_on : List Placement → Placement → Option Link → List Over
+made_over_on placements p None = []
+made_over_on placements p (Some l) = map (over_at l) (filter (is_made_over placements p l) priorities)
+
+-- The entries for the base's links on the route of `p`, in the order of the route. There is one for
+-- each priority at which `p` makes the placements count more bandwidth than the link has. Links that
+-- the base doesn't have get no entries.
+abbrev pub made_over : Database → List Placement → Placement → List Over
+made_over base placements p =
+    flat_map (λ k. made_over_on placements p (link_at base k)) (map key_passed p.route)

@@ -1,5 +1,5 @@
 -- How much bandwidth placements count on a link.
-use Rattle.std.specs.Prelude.{ℕ, Bool, ◌&&◌, not, cond, List, map, nat_eq, nat_le, filter, sum_by}
+use Rattle.std.specs.Prelude.{ℕ, Bool, ◌&&◌, not, cond, Option, List, map, nat_eq, nat_le, filter, find, sum_by}
 use Rattle.std.specs.Ordering.{eq_by_cmp}
 use Rattle.std.specs.List.{list_any, position_or_len, IsDistinct}
 use Rattle.cspf_model.specs.declared.link.Link.{Link}
@@ -42,6 +42,10 @@ counted placements k priority = sum_by (bandwidth_on k priority) placements
 -- the id of a placement, which is the id of its request
 abbrev pub id_of : Placement → ℕ
 id_of p = p.request.id
+
+-- the placement with this id, if there is one
+abbrev pub placement_of : ℕ → List Placement → Option Placement
+placement_of id placements = find (λ p. nat_eq (id_of p) id) placements
 
 -- One of the placements has this id.
 abbrev pub has_id : ℕ → List Placement → Bool

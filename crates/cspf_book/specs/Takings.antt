@@ -18,7 +18,7 @@ use Rattle.cspf_book.specs.declared.error.AbsorbError.TheVariants as unabsorbed
 use Rattle.cspf_book.specs.declared.error.VersionError.{VersionError}
 use Rattle.cspf_book.specs.declared.error.VersionError.TheVariants as error
 use Rattle.cspf_book.specs.Placements.{has_id, others}
-use Rattle.cspf_book.specs.BookState.{BookState, effective_beside, IsPlacedAlong, IsPlaceError}
+use Rattle.cspf_book.specs.BookState.{BookState, effective_beside, HasRoomFor, IsPlacedAlong, IsPlaceError}
 use Rattle.cspf_book.specs.Leading.{IsMoveBatch, IsBaseBatch}
 
 -- the book after changes of its base
@@ -46,9 +46,10 @@ IsPlacingTaken places s id before no_route t after = after ≡ before
 IsPlacingTaken places s id before (route walk) t after =
     (b : NumberedChanges) × IsMoveBatch s id b t × places before b (route walk) after
 
--- The best answer is a route, and the request may be placed along it. The taker refuses the batch
--- of this placing.
+-- The book has room for the placement, the best answer is a route, and the request may be placed
+-- along it. The taker refuses the batch of this placing.
 pub record IsPlacingRefused {S E : Type 0} (refuses : S → NumberedChanges → E → S → Type 0) (s : BookState) (q : Request) (hold : ℕ) (before : S) (why : E) (after : S) : Type 0 where
+  pub room : HasRoomFor s q.id
   pub walk : List Link
   pub best : IsBestAnswer (effective_beside s q.id) q (route walk)
   pub t : BookState

@@ -2,28 +2,33 @@
 //! with the bandwidth that the placements leave on its links.
 
 ghost use Rattle.std.specs.Prelude.{◌≡◌, ◌<◌, [], IsTrue, IfOk, IfErr, OnOk, OnErr};
+ghost use Rattle.std.specs.Option.{option_map};
 ghost use Rattle.cspf_model.specs.Best.{IsBestAnswer};
 ghost use Rattle.cspf_model.specs.Changes.{no_links, after_changes, Fits};
 ghost use Rattle.cspf_model.specs.Numbered.{NumberedChanges};
 ghost use Rattle.cspf_model.specs.Outcome.{answer_of};
 ghost use Rattle.cspf_model.specs.declared.limits.TheConstants.{MOST_VERSIONS};
-ghost use Rattle.cspf_book.specs.Placements.{has_id, counted};
+ghost use Rattle.cspf_book.specs.Placements.{id_of, placement_of, has_id, counted};
 ghost use Rattle.cspf_book.specs.Effective.{effective};
-ghost use Rattle.cspf_book.specs.BookState.{effective_beside, HasRoomFor, IsAnswerPlaced};
+ghost use Rattle.cspf_book.specs.BookState.{BookState, effective_beside, HasRoomFor, IsAnswerPlaced, IsPlaceError};
+ghost use Rattle.cspf_book.specs.PlacedRoutes.{ConnectsItsEnds, ArePlaced};
 ghost use Rattle.cspf_book.specs.Leading.{IsMoveBatch, IsBaseBatch};
 ghost use Rattle.cspf_book.specs.Takings.{after_absorbing, after_releasing, IsPlacingTaken, IsUnplaced, IsUnreleased, IsUnabsorbed};
-ghost use Rattle.cspf_book.specs.OverLinks.{over};
+ghost use Rattle.cspf_book.specs.Restoring.{MayBeAdded, after_restoring, IsUnrestored};
+ghost use Rattle.cspf_book.specs.OverLinks.{over, made_over};
+ghost use Rattle.cspf_book.specs.LinkFigures.{figures_at};
 ghost use Rattle.cspf_book.specs.LostRoutes.{AreLost};
 
 use crate::counts::Counts;
 use crate::effective_links::within_limits;
-use crate::error::{AbsorbError, PlaceError, ReleaseError, VersionError};
+use crate::error::{AbsorbError, PlaceError, ReleaseError, RestoreError, VersionError};
 use crate::giving::give_release;
-use crate::leading::{base_batch, route_at};
+use crate::leading::{base_batch, placement_at, route_at};
 use crate::limits::MOST_PLACEMENTS;
+use crate::link_figures::{LinkFigures, figures_of};
 use crate::lost::lost;
 use crate::moves::{Held, enter_at, forget_at, take_out};
-use crate::over::{Over, find_over};
+use crate::over::{Over, find_made_over, find_over};
 use crate::placement::Placement;
 use crate::taker::Taker;
 use crate::versions::Ids;
@@ -84,7 +89,8 @@ impl Book {
         })
     }
 
-    /// The version: the number of accepted base batches, placements and releases, taken together.
+    /// The version: the number of accepted base batches, placements, releases and restored
+    /// placements, taken together.
     pub fn version(&self) -> u32
         ensures { result ≡ self.now.version }
     {
@@ -105,11 +111,19 @@ impl Book {
         &self.held.effective
     }
 
-    /// The placements, in the order in which they were placed.
+    /// The placements, in the order in which they were placed or restored.
     pub fn placements(&self) -> &[Placement]
-        ensures { result.now ≡ self.now.placements }
+        ensures all { result.now ≡ self.now.placements }
+        ensures placed { ArePlaced self.now.placements }
     {
         self.placements.as_slice()
+    }
+
+    /// The placement with this id, if there is one.
+    pub fn placement(&self, id: u64) -> Option<&Placement>
+        ensures { option_map (λ p. p.now) result ≡ placement_of id self.now.placements }
+    {
+        placement_at(&self.placements, self.held.ids.index_of(id))
     }
 
     /// How much bandwidth the placements count at a priority on the link with this key.
@@ -117,6 +131,17 @@ impl Book {
         ensures { result ≡ counted self.now.placements (from, local) priority }
     {
         self.held.counts.sum(from, local, priority.min(7))
+    }
+
+    /// The figures of the base's link with this key: its bandwidths in the base, the bandwidth that
+    /// the placements count, and what is left. `None` if the base has no such link.
+    pub fn left(&self, from: Addr, local: Addr) -> Option<LinkFigures>
+        ensures { result ≡ figures_at self.now.base self.now.placements (from, local) }
+    {
+        match self.base.find(from, local) {
+            Some(link) => Some(figures_of(&self.held.counts, &link)),
+            None => None,
+        }
     }
 
     /// The best answer to a request in the effective database. The request isn't placed, and no
@@ -136,6 +161,17 @@ impl Book {
         ensures { IfOk result (λ list. list.items ≡ over self.now.placements batch.now.changes) }
     {
         find_over(alloc, &self.held.counts, &batch.changes)
+    }
+
+    /// Lists the base's links on the route of a placement that isn't in the book yet, each with the
+    /// priorities at which it makes the placements count more bandwidth than the link has. The
+    /// entries are in the order of the route. The entries of one link go from priority 0 to 7. The
+    /// call doesn't check whether the placement may be restored.
+    pub fn made_over(&self, alloc: Global, placement: &Placement) -> Result<Vec<Over>, AllocError>
+        ensures { IfOk result (λ list.
+            list.items ≡ made_over self.now.base self.now.placements placement.now) }
+    {
+        find_made_over(alloc, &self.base, &self.held.counts, placement)
     }
 
     /// The ids of the placements that lose their routes by the batch: the base admits the route
@@ -245,6 +281,84 @@ impl Book {
         };
         self.held.set_back(&self.base, &self.placements, at);
         answer
+    }
+
+    /// Answers a request as `place` would, with the same refusals of the book, but places nothing.
+    /// The book is as before, whatever the result.
+    pub fn offer(
+        &mut self,
+        alloc: Global,
+        request: &Request,
+        hold: u8,
+    ) -> Result<Outcome, PlaceError>
+        requires hold { hold < 8 }
+        requires room { self.old.version < MOST_VERSIONS }
+        ensures best { IfOk result (λ outcome.
+            IsBestAnswer (effective_beside self.old request.now.id) request.now (answer_of outcome)) }
+        ensures few { OnOk result (HasRoomFor self.old request.now.id) }
+        // `place` would make this book of the present one.
+        ensures may { IfOk result (λ outcome. (placed : BookState)
+            × IsAnswerPlaced self.old request.now hold (answer_of outcome) placed) }
+        ensures why { IfErr result (λ why. IsPlaceError self.old request.now why) }
+        ensures same { self.new ≡ self.old }
+    {
+        let at = self.held.ids.index_of(request.id);
+        if at == MOST_PLACEMENTS {
+            return Err(PlaceError::Full);
+        }
+        within_limits(&self.base);
+        enter_at(&mut self.held.counts, &self.placements, at)?;
+        self.held.set_aside(&self.base, &self.placements, at);
+        let answer = match self.held.find_offer(alloc, request, hold) {
+            Ok((outcome, _offered)) => Ok(outcome),
+            Err(why) => Err(why),
+        };
+        self.held.set_back(&self.base, &self.placements, at);
+        answer
+    }
+
+    /// Adds a placement with its route, without a search, if the taker takes the batch of the route.
+    /// The route has to lead from the request's head-end to its tail-end (`Path::leads`). The base
+    /// isn't looked at: it may lack links of the route, or have too little bandwidth for it. An error
+    /// changes nothing.
+    pub fn restore<C, S: Taker<C>>(
+        &mut self,
+        taker: &mut S,
+        context: &C,
+        alloc: Global,
+        placement: Placement,
+    ) -> Result<(), VersionError<RestoreError, S::Refusal>>
+        requires ends { ConnectsItsEnds placement }
+        requires room { self.old.version < MOST_VERSIONS }
+        ensures ok { OnOk result (MayBeAdded self.old.placements placement) }
+        ensures restored { OnOk result (self.new ≡ after_restoring self.old placement) }
+        ensures taken { OnOk result ((made : NumberedChanges)
+            × IsMoveBatch self.old (id_of placement) made self.new
+            × S.takes taker.old made taker.new) }
+        ensures why { IfErr result (λ why.
+            IsUnrestored S.refuses self.old placement taker.old why taker.new) }
+        ensures same { OnErr result (self.new ≡ self.old) }
+    {
+        match self.held.test_adding(&self.placements, &placement) {
+            Ok(()) => {}
+            Err(why) => return Err(VersionError::Book(why)),
+        }
+        within_limits(&self.base);
+        let at = self.placements.len();
+        self.held.make_room(&mut self.placements, at)?;
+        let next = self.version + 1;
+        match self
+            .held
+            .restore(taker, context, alloc, &self.base, &placement, next)
+        {
+            Ok(()) => {
+                self.held
+                    .put_in(&self.base, &mut self.placements, at, next, placement);
+                self.version = next;
+                Ok(())
+            }
+            Err(why) => Err(why),
+        }
     }
 
     /// Releases the placement with this id, if the taker takes the batch of the release. If no

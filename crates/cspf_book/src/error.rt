@@ -1,8 +1,9 @@
-//! Why a book isn't changed: a request isn't placed, a placement isn't released, or a batch of the
-//! base isn't absorbed.
+//! Why a book isn't changed: a request isn't placed, a placement isn't released or restored, or a
+//! batch of the base isn't absorbed.
 ghost use Rattle.std.specs.Prelude.{◌≡◌};
 ghost use Rattle.cspf_book.specs.declared.error.PlaceError.TheVariants as place_error;
 ghost use Rattle.cspf_book.specs.declared.error.ReleaseError.TheVariants as release_error;
+ghost use Rattle.cspf_book.specs.declared.error.RestoreError.TheVariants as restore_error;
 ghost use Rattle.cspf_book.specs.declared.error.AbsorbError.TheVariants as absorb_error;
 ghost use Rattle.cspf_book.specs.declared.error.VersionError.TheVariants as version_error;
 
@@ -61,6 +62,29 @@ pub enum ReleaseError {
     Absent,
 }
 
+/// Why a placement isn't restored. Except for `Memory`, the reasons are tested in this order.
+#[derive(Clone, Copy, Debug, PartialEq, Eq, Error)]
+pub enum RestoreError {
+    /// Memory was refused.
+    #[error("out of memory")]
+    Memory,
+    /// The book has a placement with this id.
+    #[error("a placement has this id")]
+    SameId,
+    /// The book already has `MOST_PLACEMENTS` placements.
+    #[error("more than {most} placements", most = MOST_PLACEMENTS)]
+    Full,
+    /// The route has more than `MOST_PLACED_LINKS` links.
+    #[error("a route of more than {most} links", most = MOST_PLACED_LINKS)]
+    TooLong,
+    /// The route uses a link twice.
+    #[error("a route that uses a link twice")]
+    Twice,
+    /// The routes of all placements would have more than `MOST_ROUTES_LINKS` links.
+    #[error("more than {most} links of routes", most = MOST_ROUTES_LINKS)]
+    TooManyLinks,
+}
+
 /// Why a batch of changes of the base isn't absorbed.
 #[derive(Clone, Copy, Debug, PartialEq, Eq)]
 pub enum AbsorbError {
@@ -83,6 +107,14 @@ impl<T> From<AllocError> for VersionError<ReleaseError, T> {
 
     fn from(_refused: AllocError) -> VersionError<ReleaseError, T> {
         VersionError::Book(ReleaseError::Memory)
+    }
+}
+
+impl<T> From<AllocError> for VersionError<RestoreError, T> {
+    ghost from_gives = { λ _ error. error ≡ version_error.Book restore_error.Memory };
+
+    fn from(_refused: AllocError) -> VersionError<RestoreError, T> {
+        VersionError::Book(RestoreError::Memory)
     }
 }
 

@@ -1,6 +1,6 @@
 //! Laws that follow from the definitions of `specs/` alone. Each function here does nothing: its
 //! contract is the law.
-ghost use Rattle.cspf_book.specs.Laws.{FiguresNeverRise, HasEffectiveLinks, NothingHeldIsBase, ChangesAreEffective, PlacingKeepsCovered, ReleasingKeepsCovered, AbsorbingKeepsCovered, HaveOneLostList};
+ghost use Rattle.cspf_book.specs.Laws.{FiguresNeverRise, HasEffectiveLinks, NothingHeldIsBase, ChangesAreEffective, PlacingKeepsCovered, ReleasingKeepsCovered, AbsorbingKeepsCovered, RestoringKeepsCovered, CompactIsTheBook, HaveOneLostList};
 
 /// The effective bandwidths of a link never rise from priority 0 to priority 7. So a request that
 /// fits at priority 7 also fits at each priority at which its placement is counted.
@@ -25,11 +25,20 @@ pub fn changes_of_effective_databases()
 /// A link is *covered* if the placements count at most its unreserved bandwidth in the base, at
 /// each priority. A link that is covered stays covered when a request is placed or a placement is
 /// released. When the base changes, a link that isn't covered afterwards was not covered before, or
-/// is in the list `over`.
+/// is in the list `over`. A link that was covered before a placement is restored, and isn't
+/// afterwards, is in the list `made_over`.
 pub fn covered_links()
     ensures placing { PlacingKeepsCovered }
     ensures releasing { ReleasingKeepsCovered }
     ensures absorbing { AbsorbingKeepsCovered }
+    ensures restoring { RestoringKeepsCovered }
+{}
+
+/// If each placement of a book is restored, in their order, in a book that has the same base and no
+/// placements, no placement is refused by the book, and the placements are the same. The path of
+/// each placement is made again from its head-end and the steps of its links.
+pub fn compact_is_the_book()
+    ensures { CompactIsTheBook }
 {}
 
 /// For two databases there is only one list of the ids of placements that lose their routes. Such a

@@ -3,6 +3,7 @@
 
 ghost use Rattle.std.specs.Prelude.{◌≡◌, ◌++◌, [], List, filter, map, not, IfOk, OnOk};
 ghost use Rattle.std.specs.List.{flat_map, slice_get};
+ghost use Rattle.std.specs.Option.{option_map};
 ghost use Rattle.cspf_book.specs.declared.placement.Placement.{Placement as Placed};
 ghost use Rattle.cspf_book.specs.Placements.{key_passed, has_key};
 ghost use Rattle.cspf_book.specs.Leading.{effective_change, put_at, moved_batch, base_batch, route_in};
@@ -113,6 +114,13 @@ pub(crate) fn moved_batch(
     list_puts(&mut changes, base, counts, &[], old)?;
     list_puts(&mut changes, base, counts, old, new)?;
     Ok(Batch { number, changes })
+}
+
+/// The placement at index `at`, if there is one.
+pub(crate) fn placement_at(placements: &[Placement], at: usize) -> Option<&Placement>
+    ensures { option_map (λ p. p.now) result ≡ slice_get placements.now at }
+{
+    placements.get(at)
 }
 
 /// The route of the placement at index `at`. There are no links if there is no such placement.

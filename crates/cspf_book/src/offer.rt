@@ -23,7 +23,7 @@ use cspf_search::best;
 use std::alloc::Global;
 
 /// Whether no two of the links have the same key.
-fn has_own_keys(links: &[Passed]) -> bool
+pub(crate) fn has_own_keys(links: &[Passed]) -> bool
     ensures { IsTrue result ↔ ArePassedOnce links.now }
 {
     for (i, link) in links.iter().enumerate() {
@@ -95,6 +95,28 @@ fn offer_of(
 
 impl Held {
     /// The best answer to a request in the effective database. If the answer is a route, its
+    /// placement is returned too. A route that can't be placed is an error (`placement_on`).
+    pub(crate) fn find_offer(
+        &self,
+        alloc: Global,
+        request: &Request,
+        hold: u8,
+    ) -> Result<(Outcome, Option<Placement>), PlaceError>
+        requires hold { hold < 8 }
+        requires few { self.now.links ≤ MOST_ROUTES_LINKS }
+        ensures best { IfOk result (λ offered.
+            IsBestAnswer self.now.effective request.now (answer_of offered.0)) }
+        ensures placement { IfOk result (λ offered. IsOffered request.now hold
+            (MOST_ROUTES_LINKS - self.now.links) (answer_of offered.0) offered.1) }
+        ensures refused { IfErr result (λ why. IsOfferRefused self.now.effective request.now
+            (MOST_ROUTES_LINKS - self.now.links) why) }
+    {
+        let answer = best(alloc, &self.effective, request)?;
+        let room = MOST_ROUTES_LINKS - self.links;
+        offer_of(alloc, answer, request, hold, room)
+    }
+
+    /// The best answer to a request in the effective database. If the answer is a route, its
     /// placement in this version of the book is returned too. A route that can't be placed is an
     /// error (`placement_on`). If there is a placement, entries of the sums are also made for its
     /// links, and `version` is entered for its id. No sum changes. After an error, no id has
@@ -128,9 +150,7 @@ impl Held {
             (HasSameIds self.old.ids self.new.ids)) }
         ensures err { OnErr result (HasSameIds self.old.ids self.new.ids) }
     {
-        let answer = best(alloc, &self.effective, request)?;
-        let room = MOST_ROUTES_LINKS - self.links;
-        let (outcome, offered) = offer_of(alloc, answer, request, hold, room)?;
+        let (outcome, offered) = self.find_offer(alloc, request, hold)?;
         match offered {
             Some(placement) => {
                 self.counts.enter(placement.route.links())?;

@@ -1,7 +1,8 @@
 //! The path of a placement, which is what a placement keeps of its route.
 
-ghost use Rattle.std.specs.Prelude.{◌≡◌, ◌+◌, ◌<◌, ◌≤◌, map, IfOk};
+ghost use Rattle.std.specs.Prelude.{◌≡◌, ◌+◌, ◌<◌, ◌≤◌, ◌↔◌, map, IfOk, IsTrue};
 ghost use Rattle.cspf_book.specs.Placements.{passed_of};
+ghost use Rattle.cspf_book.specs.PathsFrom.{path_from, LeadFromTo};
 
 use cspf_addr::Addr;
 use cspf_model::{Link, Route};
@@ -46,6 +47,40 @@ impl Path {
     {
         let links = route.links().iter().map(kept_of).collect(alloc)?;
         Ok(Path { links })
+    }
+
+    /// The path that begins at the router `from`. Each step is a link: the address of its interface,
+    /// and the router that it leads to, where the next link begins.
+    pub fn along(alloc: Global, from: Addr, steps: &[(Addr, Addr)]) -> Result<Path, AllocError>
+        ensures { IfOk result (λ path. path ≡ path_from from steps.now) }
+    {
+        let mut links = Vec::with_capacity(alloc, steps.len())?;
+        let mut router = from;
+        for step in steps {
+            links.push(Passed {
+                from: router,
+                local: step.0,
+                to: step.1,
+            })?;
+            router = step.1;
+        }
+        Ok(Path { links })
+    }
+
+    /// Whether the path leads from one router to another: its first link begins at `from`, each
+    /// other link begins where the link before it ends, and the last link ends at `to`. A path
+    /// without links leads from each router to itself.
+    pub fn leads(&self, from: Addr, to: Addr) -> bool
+        ensures { IsTrue result ↔ LeadFromTo from to self.now }
+    {
+        let mut router = from;
+        for link in &self.links {
+            if link.from != router {
+                return false;
+            }
+            router = link.to;
+        }
+        router == to
     }
 
     /// The links in order, from the head-end on.

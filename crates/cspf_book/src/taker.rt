@@ -27,7 +27,8 @@ pub trait Taker<C> {
     /// and the state after the call.
     ghost refuses: { Self → NumberedChanges → Self.Refusal → Self → Type 0 };
 
-    /// Takes the batch of a release or of changes of the base, or refuses it.
+    /// Takes the batch of a release, of a restored placement or of changes of the base, or refuses
+    /// it.
     fn take(&mut self, context: &C, alloc: Global, batch: &Batch) -> Result<(), Self::Refusal>
         ensures taken { OnOk result (takes self.old batch.now self.new) }
         ensures refused { IfErr result (λ why. refuses self.old batch.now why self.new) };

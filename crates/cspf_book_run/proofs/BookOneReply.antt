@@ -1,5 +1,5 @@
 -- Each row of a book has only one answer.
-use Rattle.std.proofs.Common.{◌≡◌, ℕ, suc, ◌+◌, ◌<◌, ◌++◌, List, [], ◌∷◌, length, take, drop, IsTrue, Result, Ok, Err, inl, inr, refl, sym, ap, subst, ◌∙◌, codes, arith}
+use Rattle.std.proofs.Common.{◌≡◌, ℕ, suc, ◌+◌, ◌<◌, ◌++◌, List, [], ◌∷◌, length, drop, IsTrue, Result, Ok, Err, inl, inr, refl, sym, ap, subst, ◌∙◌, codes, arith}
 use Rattle.std.proofs.Math.Bridge.{le_prop}
 use Rattle.cspf_model.specs.Best.{Answer, route, IsBestAnswer}
 use Rattle.cspf_model.specs.Database.{HaveOwnKeys}
@@ -8,7 +8,6 @@ use Rattle.cspf_model.specs.declared.link.Link.{Link}
 use Rattle.cspf_model.specs.declared.request.Request.{Request}
 use Rattle.cspf_ero.specs.ReplyLine.{HasOneReplyLine}
 use Rattle.cspf_rows.specs.declared.row_error.RowError.{RowError}
-use Rattle.cspf_stream.specs.RowAnswers.{AreAnswered}
 use Rattle.cspf_rows.specs.Steps.{step_of}
 use Rattle.cspf_rows.specs.declared.step.Step.{Step}
 use Rattle.cspf_rows.specs.declared.step.Step.TheVariants as step
@@ -24,9 +23,7 @@ use Rattle.cspf_book_run.specs.declared.refusals.PlaceRefusal.TheVariants as unp
 use Rattle.cspf_book_run.specs.declared.refusals.ReleaseRefusal.{ReleaseRefusal}
 use Rattle.cspf_book_run.specs.declared.refusals.ReleaseRefusal.TheVariants as unreleased
 use Rattle.cspf_book_run.specs.BookLines.{IsPlaceReply}
-use Rattle.cspf_book_run.specs.BookRows.{book_row_of}
-use Rattle.cspf_book_run.specs.BookScript.{BookRunState, book_start, book_answers, after_answer, IsBaseEndAnswered, IsAskAnswered, IsPlaceRefusal, IsPlaceAnswered, IsPlaceTaken, IsReleaseRefusal, IsReleaseTaken, IsBookStepAnswered, IsBookRowAnswered}
-use Rattle.cspf_book_run.specs.BookScriptLaws.{BooksHaveOneReply}
+use Rattle.cspf_book_run.specs.BookScript.{BookRunState, after_answer, IsBaseEndAnswered, IsAskAnswered, IsPlaceRefusal, IsPlaceAnswered, IsPlaceTaken, IsReleaseRefusal, IsReleaseTaken, IsBookStepAnswered, IsBookRowAnswered}
 use Rattle.cspf_book_run.proofs.LostOnce.{lost_once}
 
 abbrev pub SameBookReply : List ℕ → BookRunState → List ℕ → BookRunState → Type 0
@@ -42,7 +39,7 @@ end_once one s number count l m t u (inr a) (inl b) = absurd (a.1 b.0)
 end_once one s number count l m t u (inr a) (inr b) =
     (a.3 ∙ rw (refusal_once s.book.version (s.batches + 1) s.changes s.book.base number count one a.0 b.0 a.2 b.2) (sym b.3), a.4 ∙ sym b.4)
 
-ask_once : OneBestAnswer → HasOneReplyLine → (s : BookRunState) (q : Request) (l m : List ℕ) (t u : BookRunState)
+pub ask_once : OneBestAnswer → HasOneReplyLine → (s : BookRunState) (q : Request) (l m : List ℕ) (t u : BookRunState)
     → IsAskAnswered s q l t → IsAskAnswered s q m u → SameBookReply l t m u
 ask_once best reply s q l m t u a b =
     let same : a.0 ≡ b.0 = best _ q a.0 b.0 a.1 b.1 in
@@ -91,11 +88,16 @@ module _ (best : OneBestAnswer) (s : BookRunState) (q : Request) (hold : ℕ) wh
   not_refused l book a unplaced.Long (room, (few, walk, is, own, long)) = let placed = other_answer l book a walk is in omega (arith, placed.short, long)
   not_refused l book a unplaced.Links (room, (few, walk, is, own, short, many)) = let placed = other_answer l book a walk is in omega (arith, placed.few_links, many)
   not_refused l book a unplaced.Twice (room, (few, walk, is, twice)) = twice (other_answer l book a walk is).own_keys
+  not_refused l book a other r = absurd r
 
   walk_once : (walk other : List Link) → IsBestAnswer (effective_beside s.book q.id) q (route walk) → IsBestAnswer (effective_beside s.book q.id) q (route other) → walk ≡ other
   walk_once walk other a b = let same : route walk ≡ route other = best _ q (route walk) (route other) a b in cc
 
   place_refusal_once : (why other : PlaceRefusal) → IsPlaceRefusal s q why → IsPlaceRefusal s q other → why ≡ other
+  place_refusal_once unplaced.Stopped other a b = absurd a
+  place_refusal_once (unplaced.Keep written) other a b = absurd a
+  place_refusal_once why unplaced.Stopped a b = absurd b
+  place_refusal_once why (unplaced.Keep written) a b = absurd b
   place_refusal_once unplaced.Exhausted unplaced.Exhausted a b = refl
   place_refusal_once unplaced.Exhausted other a b = absurd (omega (arith, a, b.0))
   place_refusal_once why unplaced.Exhausted a b = absurd (omega (arith, a.0, b))
@@ -132,6 +134,10 @@ module _ (best : OneBestAnswer) (s : BookRunState) (q : Request) (hold : ℕ) wh
 -- ---- `release` rows
 
 release_refusal_once : (s : BookRunState) (id : ℕ) (why other : ReleaseRefusal) → IsReleaseRefusal s id why → IsReleaseRefusal s id other → why ≡ other
+release_refusal_once s id unreleased.Stopped other a b = absurd a
+release_refusal_once s id (unreleased.Keep written) other a b = absurd a
+release_refusal_once s id why unreleased.Stopped a b = absurd b
+release_refusal_once s id why (unreleased.Keep written) a b = absurd b
 release_refusal_once s id unreleased.Exhausted unreleased.Exhausted a b = refl
 release_refusal_once s id unreleased.Exhausted unreleased.Absent a b = absurd (omega (arith, a, b.0))
 release_refusal_once s id unreleased.Absent unreleased.Exhausted a b = absurd (omega (arith, a.0, b))
@@ -140,6 +146,7 @@ release_refusal_once s id unreleased.Absent unreleased.Absent a b = refl
 not_released : (s : BookRunState) (id : ℕ) (why : ReleaseRefusal) → s.book.version < 900000 → IsTrue (has_id id s.book.placements) → IsReleaseRefusal s id why → ⊥
 not_released s id unreleased.Exhausted room has r = omega (arith, room, r)
 not_released s id unreleased.Absent room has r = r.1 has
+not_released s id other room has r = absurd r
 
 release_once : (s : BookRunState) (id : ℕ) (l m : List ℕ) (t u : BookRunState) → IsReleaseTaken s id l t → IsReleaseTaken s id m u → SameBookReply l t m u
 release_once s id l m t u (inl (room, has, line, after)) (inl (room2, has2, line2, after2)) = (line ∙ sym line2, after ∙ sym after2)
@@ -148,7 +155,7 @@ release_once s id l m t u (inr (why, r, line2, after2)) (inl (room, has, line, a
 release_once s id l m t u (inr (why, r, line, after)) (inr (why2, r2, line2, after2)) =
     (line ∙ rw (release_refusal_once s id why why2 r r2) (sym line2), after ∙ sym after2)
 
--- ---- all rows
+-- ---- each row
 
 step_once : OneBestAnswer → HasOneReplyLine → OneRefusal → (s : BookRunState) (row : Step) (l m : List ℕ) (t u : BookRunState)
     → IsBookStepAnswered s row l t → IsBookStepAnswered s row m u → SameBookReply l t m u
@@ -162,17 +169,3 @@ book_row_once best reply one place s (Err error) l m t u a b = (a.0 ∙ sym b.0,
 book_row_once best reply one place s (Ok (book_row.Base row)) l m t u a b = step_once best reply one s (step_of row) l m t u a b
 book_row_once best reply one place s (Ok (book_row.Place q hold)) l m t u a b = place_once best s q hold reply l m t u a b
 book_row_once best reply one place s (Ok (book_row.Release id)) l m t u a b = release_once s id l m t u a b
-
-all_once : OneBestAnswer → HasOneReplyLine → OneRefusal → (place : ℕ) (s : BookRunState) (rows : List (List (List ℕ))) (l m : List ℕ) (t u : BookRunState)
-    → AreAnswered book_answers place s rows l t → AreAnswered book_answers place s rows m u → SameBookReply l t m u
-unfolding AreAnswered
-all_once best reply one place s [] l m t u a b = (a.0 ∙ sym b.0, a.1 ∙ sym b.1)
-all_once best reply one place s (fields ∷ rows) l m t u a b =
-    let step = book_row_once best reply one place s (book_row_of fields) a.0 b.0 a.1 b.1 a.3 b.3 in
-    let rest = all_once best reply one (suc place) b.1 rows a.2 b.2 t u (subst (λ (x : BookRunState). AreAnswered book_answers (suc place) x rows a.2 t) step.1 a.5) b.5 in
-    (a.4 ∙ rw (step.0, rest.0) (sym b.4), rest.1)
-
-pub book_run_once : OneBestAnswer → HasOneReplyLine → OneRefusal → BooksHaveOneReply
-book_run_once best reply one rows l m a b x y =
-    let same = all_once best reply one 1 book_start (take 1000000 rows) x.replies y.replies x.after y.after x.answered y.answered in
-    (x.whole ∙ rw (same.0, same.1) (sym y.whole), x.counts ∙ rw same.1 (sym y.counts))

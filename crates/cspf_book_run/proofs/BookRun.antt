@@ -1,88 +1,170 @@
 -- How the answers of the code make up the lines and the summary of a run of a book, and how such a
 -- run stops.
-use Rattle.std.proofs.Common.{◌≡◌, ℕ, suc, ◌+◌, ◌<◌, Bool, true, List, [], ◌∷◌, ◌++◌, take, length, Option, Some, None, IfSome, inl, inr, refl, sym, ap, subst, ◌∙◌, append_assoc, append-nil, arith}
+use Rattle.std.proofs.Common.{◌≡◌, ◌==◌, ◌⊎◌, ℕ, suc, ◌+◌, ◌<◌, Bool, true, false, cond, List, [], ◌∷◌, ◌++◌, take, length, Option, Some, None, IfSome, Result, Ok, Err, inl, inr, refl, sym, ap, subst, ◌∙◌, append-nil, arith}
 use Rattle.std.proofs.KnownBytes.{Appends-nil, Appends-trans, Appends-kept}
+use Rattle.std.proofs.lemmas.Bool.{cases_Bool}
 use Rattle.std.specs.Io.KnownBytes.{Appends}
+use Rattle.std.specs.declared.alloc.AllocError.{AllocError}
 use Rattle.cspf_rows.specs.Records.{rows_of}
-use Rattle.cspf_stream.specs.RowAnswers.{AnswersOf, AreAnswered}
+use Rattle.cspf_rows.specs.declared.row_error.RowError.{RowError}
+use Rattle.cspf_stream.specs.RowAnswers.{AreAnswered}
 use Rattle.cspf_stream.specs.Runs.{IsPrefixAnswered, HasRun, FailsAtRow, IsRunStopped}
 use Rattle.cspf_stream.specs.Runs as run
+use Rattle.cspf_stream.specs.StreamStops.{FailsOf}
 use Rattle.cspf_stream.specs.declared.error.RunStop.{RunStop}
 use Rattle.cspf_stream.specs.declared.error.RunStop.TheVariants as run_stop
 use Rattle.cspf_stream.proofs.Going.{none_answered}
 use Rattle.cspf_stream.proofs.Running.{carried}
+use Rattle.cspf_solve.specs.OutputAtError.{solve_error_of}
 use Rattle.cspf_solve.specs.declared.summary.Summary.{Summary}
-use Rattle.cspf_solve.specs.declared.error.SolveError.TheVariants as run_error
-use Rattle.cspf_book_run.specs.declared.kept_rows.KeptRows.{KeptRows}
-use Rattle.cspf_book_run.specs.declared.error.BookError.{BookError}
-use Rattle.cspf_book_run.specs.declared.error.BookError.TheVariants as book_error
-use Rattle.cspf_book_run.specs.BookScript.{BookRunState, book_start, book_answers, AreBookRowsAnswered, IsBookRun, book_summary_of}
-use Rattle.cspf_book_run.specs.BookOutput.{AreFirstBookRows, IsBookBegun, IsNextBookText, IsBookOutputAtError, book_error_of}
+use Rattle.cspf_solve.specs.declared.error.SolveError.{SolveError}
+use Rattle.cspf_solve.specs.declared.error.SolveError.TheVariants as error
+use Rattle.cspf_book_run.specs.declared.book_row.BookRow.{BookRow}
+use Rattle.cspf_book_run.specs.declared.book_rows.BookRows.{BookRows}
+use Rattle.cspf_book_run.specs.declared.keeper.Keeping.{Keeping}
+use Rattle.cspf_book_run.specs.BookRows.{book_row_of}
+use Rattle.cspf_book_run.specs.BookScript.{BookRunState, book_start, book_summary_of, IsBookRowAnswered}
+use Rattle.cspf_book_run.specs.BookOutput.{AreFirstBookRows, IsBookBegun, IsNextBookText, IsRefusalUnsaid, IsBookOutputAtError}
 use Rattle.cspf_book_run.specs.BookStates.{KeepsBook, IsBookBefore, AreBookCounts}
-use Rattle.cspf_book_run.specs.Kept.{kept_answers, kept_of, AreBookRowsKept, IsKeptText}
-use Rattle.cspf_book_run.specs.KeptStates.{IsRowKept, IsRowNotKept, IsBookLast}
+use Rattle.cspf_book_run.specs.Kept.{kept_of}
+use Rattle.cspf_book_run.specs.KeptRuns.{KeptRunState, kept_start, kept_run_answers, AreKeptRowsAnswered, IsRowCutOff, IsAnsweredStopped, IsBookRun, IsKeepFault}
+use Rattle.cspf_book_run.specs.KeptStates.{kept_as, IsRowFailed, IsAnsweredDone, IsAnsweredLost, IsBookAnswer, IsBookAnswerLost, IsBookLast}
+use Rattle.cspf_book_run.proofs.BookSteps.{no_text}
 
 abbrev Rows : Type 0
 Rows = List (List (List ℕ))
 
--- the state of a run, and the text that went to the accepted rows' writer `keep` so far
-record KeptState : Type 0 where
-  state : BookRunState
-  keep : List ℕ
+abbrev no_bytes : List ℕ
+no_bytes = []
 
-abbrev KeptAnswers : AnswersOf KeptState
-KeptAnswers place s fields line t = book_answers place s.state fields line t.state × (t.keep ≡ s.keep ++ kept_of s.state fields t.state)
+-- ---- one row
 
--- the rows are answered, and their text goes to the accepted rows' writer `keep`
-all_rows : (place : ℕ) (s t : KeptState) (rows : Rows) (lines : List ℕ) → AreAnswered KeptAnswers place s rows lines t
-    → AreAnswered book_answers place s.state rows lines t.state × ((text : List ℕ) × AreAnswered kept_answers place s.state rows text t.state × (t.keep ≡ s.keep ++ text))
-unfolding AreAnswered
-all_rows place s t [] lines a =
-    let same : t.state ≡ s.state = ap (λ (x : KeptState). x.state) a.1 in
-    ((a.0, same), ([], (refl, same), ap (λ (x : KeptState). x.keep) a.1 ∙ sym (append-nil s.keep)))
-all_rows place s t (fields ∷ rows) lines a =
-    let text = kept_of s.state fields a.1.state in
-    let rest = all_rows (suc place) a.1 t rows a.2 a.5 in (
-      (a.0, a.1.state, a.2, a.3.0, a.4, rest.0),
-      (
-        text ++ rest.1.0,
-        (text, a.1.state, rest.1.0, (a.0, a.3.0, refl), refl, rest.1.1),
-        rest.1.2 ∙ ap (λ x. x ++ rest.1.0) a.3.1 ∙ append_assoc s.keep text rest.1.0,
-      ),
-    )
+-- If the fields are read as `row`, the text that goes to the writer `keep` is `kept_as` of this
+-- row.
+kept_same : (s t : BookRunState) (fields : List (List ℕ)) (row : BookRow) → book_row_of fields ≡ Ok row → kept_as s fields row t ≡ kept_of s fields t
+kept_same s t fields row read = rw read refl
 
-module _ {K : Type 0} (contents : K → Option (List ℕ)) (k : KeptRows K) (fresh : KeepsBook k.rows.rows book_start) (first : IsBookBefore 1 k.rows) where
+no_text_at_all : (b : Bool) → no_bytes ≡ cond b no_bytes no_bytes
+no_text_at_all true = refl
+no_text_at_all false = refl
+
+-- A row that couldn't be read has no text for the writer `keep`.
+unread_text : (s t : BookRunState) (fields : List (List ℕ)) (e : RowError) → book_row_of fields ≡ Err e → no_bytes ≡ kept_of s fields t
+unread_text s t fields e read = rw read (no_text_at_all (t.book.version == s.book.version))
+
+module _ {K : Type 0} (contents : K → Option (List ℕ)) (place : ℕ) (s : KeptRunState) (fields : List (List ℕ)) where
+  -- What is written for a row, and the answer to it.
+  record IsRowSaid (line : List ℕ) (t : BookRunState) (old new : Keeping K) : Type 0 where
+    stopped : Bool
+    more : List ℕ
+    stops : new.stopped ≡ stopped
+    written : Appends (contents old.keep) (contents new.keep) more
+    answered : kept_run_answers place s fields line (record { run = t; stopped = stopped; kept = s.kept ++ more })
+
+  as_read : (line : List ℕ) (t : BookRunState) (row : Result BookRow RowError) → book_row_of fields ≡ row → IsBookRowAnswered place s.run row line t
+      → IsBookRowAnswered place s.run (book_row_of fields) line t
+  as_read line t row read a = subst (λ (r : Result BookRow RowError). IsBookRowAnswered place s.run r line t) (sym read) a
+
+  stopped_as_read : (line : List ℕ) (t : BookRunState) (row : Result BookRow RowError) → book_row_of fields ≡ row → IsAnsweredStopped place s.run row line t
+      → IsAnsweredStopped place s.run (book_row_of fields) line t
+  stopped_as_read line t row read a = subst (λ (r : Result BookRow RowError). IsAnsweredStopped place s.run r line t) (sym read) a
+
+  nothing_more : (line : List ℕ) (t : BookRunState) (old new : Keeping K) → new ≡ old → (stopped : Bool) → old.stopped ≡ stopped
+      → kept_run_answers place s fields line (record { run = t; stopped = stopped; kept = s.kept ++ [] }) → IsRowSaid line t old new
+  nothing_more line t old new same stopped is a = record {
+    stopped = stopped;
+    more = [];
+    stops = ap (λ (k : Keeping K). k.stopped) same ∙ is;
+    written = subst (λ (k : Keeping K). Appends (contents old.keep) (contents k.keep) []) (sym same) (Appends-nil (contents old.keep));
+    answered = a;
+  }
+
+  -- the state after a row whose text was cut off
+  abbrev stopped_at : BookRunState → List ℕ → KeptRunState
+  stopped_at t more = record { run = t; stopped = true; kept = s.kept ++ more }
+
+  -- The write of the row's text fails, and the row is refused.
+  pub cut_off_row : (line : List ℕ) (t : BookRunState) (row : BookRow) (old new : Keeping K) → book_row_of fields ≡ Ok row → old.stopped ≡ s.stopped
+      → (f : IsRowFailed contents s.run fields row line t old new) → IsRowCutOff place s fields line (stopped_at t (take f.written (kept_as s.run fields row f.next)))
+  cut_off_row line t row old new read stands f = (
+    sym stands ∙ f.going,
+    refl,
+    f.written,
+    record {
+      lines = f.lines;
+      next = f.next;
+      accepted = as_read f.lines f.next (Ok row) read f.accepted;
+      part = subst (λ (x : List ℕ). f.written < length x) (kept_same s.run f.next fields row read) f.cut_off.part;
+      row = row;
+      read = read;
+      refused = f.refused;
+    },
+    ap (λ (x : List ℕ). s.kept ++ take f.written x) (kept_same s.run f.next fields row read),
+  )
+
+  said : (line : List ℕ) (t : BookRunState) (row : Result BookRow RowError) (old new : Keeping K) → book_row_of fields ≡ row → old.stopped ≡ s.stopped
+      → IsAnsweredDone contents place s.run fields row line t old new → IsRowSaid line t old new
+  said line t (Err e) old new read stands (a, same) = elim (cases_Bool s.stopped) [
+    | inl stopped ↦ nothing_more line t old new same true (stands ∙ stopped) (inr (inr (stopped, refl, stopped_as_read line t (Err e) read a, append-nil s.kept)))
+    | inr going ↦
+        nothing_more line t old new same false (stands ∙ going) (inl (going, refl, as_read line t (Err e) read a, ap (λ (x : List ℕ). s.kept ++ x) (unread_text s.run t fields e read)))
+  ]
+  said line t (Ok row) old new read stands (inl (going, taken, written)) = record {
+    stopped = false;
+    more = kept_as s.run fields row t;
+    stops = written.same ∙ going;
+    written = written.written;
+    answered = inl (sym stands ∙ going, refl, as_read line t (Ok row) read taken, ap (λ (x : List ℕ). s.kept ++ x) (kept_same s.run t fields row read));
+  }
+  said line t (Ok row) old new read stands (inr (inl f)) = record {
+    stopped = true;
+    more = take f.written (kept_as s.run fields row f.next);
+    stops = f.cut_off.stops;
+    written = f.cut_off.front;
+    answered = inr (inl (cut_off_row line t row old new read stands f));
+  }
+  said line t (Ok row) old new read stands (inr (inr (stops, a, same))) =
+      nothing_more line t old new same true stops (inr (inr (sym stands ∙ stops, refl, stopped_as_read line t (Ok row) read a, append-nil s.kept)))
+
+-- ---- all rows
+
+module _ {K : Type 0} (contents : K → Option (List ℕ)) (k : BookRows K) (fresh : KeepsBook k.rows book_start) (going : k.rows.sink.keeping.stopped ≡ false) (first : IsBookBefore 1 k) where
+  abbrev keep_of : BookRows K → Option (List ℕ)
+  keep_of b = contents b.rows.sink.keeping.keep
+
+  abbrev Fails : AllocError → FailsOf (BookRows K)
+  Fails fault = IsBookAnswerLost contents
+
   -- before the row with this number the code is in this state of the run
-  record IsBookAt (place : ℕ) (b : KeptRows K) (s : KeptState) : Type 0 where
-    kept : KeepsBook b.rows.rows s.state
-    before : IsBookBefore place b.rows
-    written : Appends (contents k.keep) (contents b.keep) s.keep
+  record IsBookAt (place : ℕ) (b : BookRows K) (s : KeptRunState) : Type 0 where
+    keeps : KeepsBook b.rows s.run
+    stopped : b.rows.sink.keeping.stopped ≡ s.stopped
+    before : IsBookBefore place b
+    written : Appends (keep_of k) (keep_of b) s.kept
 
-  one_row : (place : ℕ) (b b' : KeptRows K) (s : KeptState) (fields : List (List ℕ)) (line : List ℕ) → IsBookAt place b s → IsRowKept contents place b fields line b'
-      → (t : KeptState) × IsBookAt (suc place) b' t × KeptAnswers place s fields line t
+  one_row : (place : ℕ) (b b' : BookRows K) (s : KeptRunState) (fields : List (List ℕ)) (line : List ℕ) → IsBookAt place b s → IsBookAnswer contents place b fields line b'
+      → (t : KeptRunState) × IsBookAt (suc place) b' t × kept_run_answers place s fields line t
   one_row place b b' s fields line at a =
-      let led = a.answered.lead s.state at.kept in
-      let counts = a.answered.counts in
-      let before : IsBookBefore (suc place) b'.rows = record {
-        rows = omega (arith, at.before.rows, counts.rows);
-        count = omega (arith, at.before.count, counts.others.count);
-        answers = omega (arith, at.before.answers, counts.others.answers);
-        refused = omega (arith, at.before.refused, counts.others.refused);
+      let led = a.lead s.run at.keeps in
+      let d = said contents place s fields line led.0 (book_row_of fields) b.rows.sink.keeping b'.rows.sink.keeping refl at.stopped led.2 in
+      let before : IsBookBefore (suc place) b' = record {
+        rows = omega (arith, at.before.rows, a.counts.rows);
+        count = omega (arith, at.before.count, a.counts.others.count);
+        answers = omega (arith, at.before.answers, a.counts.others.answers);
+        refused = omega (arith, at.before.refused, a.counts.others.refused);
       } in (
-        record { state = led.0; keep = s.keep ++ a.text },
-        record { kept = led.1; before = before; written = Appends-trans (contents k.keep) (contents b.keep) (contents b'.keep) s.keep a.text at.written a.written },
-        (led.2.0, ap (λ x. s.keep ++ x) led.2.1),
+        record { run = led.0; stopped = d.stopped; kept = s.kept ++ d.more },
+        record { keeps = led.1; stopped = d.stops; before = before; written = Appends-trans (keep_of k) (keep_of b) (keep_of b') s.kept d.more at.written d.written },
+        d.answered,
       )
 
-  led : (b : KeptRows K) (done : Rows) (lines : List ℕ) → AreAnswered (IsRowKept contents) 1 k done lines b
-      → (t : KeptState) × IsBookAt (1 + length done) b t × AreBookRowsAnswered done lines t.state × AreBookRowsKept done t.keep t.state
+  led : (b : BookRows K) (done : Rows) (lines : List ℕ) → AreAnswered (IsBookAnswer contents) 1 k done lines b
+      → (t : KeptRunState) × IsBookAt (1 + length done) b t × AreKeptRowsAnswered done lines t
   led b done lines a =
-      let start : KeptState = record { state = book_start; keep = [] } in
-      let c = carried (IsRowKept contents) KeptAnswers IsBookAt one_row 1 k b start done lines (record { kept = fresh; before = first; written = Appends-nil (contents k.keep) }) a in
-      let both = all_rows 1 start c.0 done lines c.2 in
-      (c.0, c.1, both.0, rw both.1.2 both.1.1)
+      carried (IsBookAnswer contents) kept_run_answers IsBookAt one_row 1 k b kept_start done lines
+      (record { keeps = fresh; stopped = going; before = first; written = Appends-nil (keep_of k) }) a
 
-  pub counted_run : (too_many : Bool) (all : Option (List (List (List ℕ)))) (b : KeptRows K) (old new : Option (List ℕ)) → HasRun (IsRowKept contents) IsBookLast 1000000 too_many all k b old new → AreBookCounts b.rows
+  pub counted_run : (too_many : Bool) (all : Option (List (List (List ℕ)))) (b : BookRows K) (old new : Option (List ℕ)) → HasRun (IsBookAnswer contents) IsBookLast 1000000 too_many all k b old new → AreBookCounts b
   counted_run too_many all b old new run =
       let before = (led b run.done run.lines run.answered).1.before in
       record {
@@ -91,118 +173,138 @@ module _ {K : Type 0} (contents : K → Option (List ℕ)) (k : KeptRows K) (fre
         refused = omega (arith, before.refused, run.few);
       }
 
-  -- the lines and the summary of a run that ends
-  pub run_ends : (too_many : Bool) (all : Option (List (List (List ℕ)))) (b : KeptRows K) (old new : Option (List ℕ)) (summary : Summary) → HasRun (IsRowKept contents) IsBookLast 1000000 too_many all k b old new
-      → ((s : BookRunState) → KeepsBook b.rows.rows s → summary ≡ book_summary_of b.rows.read s too_many)
-      → IfSome all (λ rows. (lines : List ℕ) × IsBookRun rows lines summary × Appends old new lines)
+  -- the lines and the summary of a run that ends, and what is written to the writer `keep`
+  pub run_ends : (too_many : Bool) (all : Option (List (List (List ℕ)))) (b : BookRows K) (old new : Option (List ℕ)) (summary : Summary) → HasRun (IsBookAnswer contents) IsBookLast 1000000 too_many all k b old new
+      → ((s : BookRunState) → KeepsBook b.rows s → summary ≡ book_summary_of b.read s too_many)
+      → IfSome all (λ rows. (lines : List ℕ) × (kept : List ℕ) × IsBookRun rows lines kept summary × Appends old new lines
+      × Appends (contents k.rows.sink.keeping.keep) (contents b.rows.sink.keeping.keep) kept)
   run_ends too_many None b old new summary run is = tt
   run_ends too_many (Some rows) b old new summary run is =
       let c = led b run.done run.lines run.answered in
-      let read : b.rows.read ≡ length run.done = omega (arith, c.1.before.rows) in (
+      let read : b.read ≡ length run.done = omega (arith, c.1.before.rows) in (
         run.lines ++ run.text,
+        c.0.kept,
         record {
           replies = run.lines;
-          after = c.0.state;
+          after = c.0;
           answered = rw run.first.0 c.2;
-          whole = rw (run.first.1, run.ends c.0.state c.1.kept) refl;
-          counts = is c.0.state c.1.kept ∙ ap (λ n. book_summary_of n c.0.state too_many) read ∙ rw (run.first.0, run.first.1) refl;
+          whole = rw (run.first.1, run.ends c.0.run c.1.keeps) refl;
+          whole_kept = refl;
+          counts = is c.0.run c.1.keeps ∙ ap (λ n. book_summary_of n c.0.run too_many) read ∙ rw (run.first.0, run.first.1) refl;
         },
         run.written,
+        c.1.written,
       )
 
-  -- the text that goes to the accepted rows' writer `keep` in a run that ends
-  pub run_keeps : (too_many : Bool) (all : Option (List (List (List ℕ)))) (b : KeptRows K) (old new : Option (List ℕ)) → HasRun (IsRowKept contents) IsBookLast 1000000 too_many all k b old new
-      → IfSome all (λ rows. (text : List ℕ) × IsKeptText rows text × Appends (contents k.keep) (contents b.keep) text)
-  run_keeps too_many None b old new run = tt
-  run_keeps too_many (Some rows) b old new run =
-      let c = led b run.done run.lines run.answered in
-      (c.0.keep, (c.0.state, rw run.first.0 c.3), c.1.written)
-
-  begun : (b : KeptRows K) (rows : Rows) (old new : Option (List ℕ)) (a : IsPrefixAnswered (IsRowKept contents) 1000000 (Some rows) k b old new)
-      → (t : KeptState) × IsBookAt (1 + length a.done) b t × AreFirstBookRows rows a.done a.rest a.lines t.state × AreBookRowsKept a.done t.keep t.state
+  begun : (b : BookRows K) (rows : Rows) (old new : Option (List ℕ)) (a : IsPrefixAnswered (IsBookAnswer contents) 1000000 (Some rows) k b old new)
+      → (t : KeptRunState) × IsBookAt (1 + length a.done) b t × AreFirstBookRows rows a.done a.rest a.lines t
   begun b rows old new a =
       let c = led b a.done a.lines a.answered in
-      (c.0, c.1, record { split = a.split; few = a.few; answered = c.2 }, c.3)
+      (c.0, c.1, record { split = a.split; few = a.few; answered = c.2 })
 
-  abbrev IsHalted : BookError → Option Rows → Option (List ℕ) → Option (List ℕ) → Option (List ℕ) → Type 0
-  IsHalted error all old new keep =
-      IfSome all (λ rows. (out : List ℕ) × (kept : List ℕ) × IsBookOutputAtError error rows out kept × Appends old new out × Appends (contents k.keep) keep kept)
+  abbrev IsHalted : SolveError → Option Rows → Option (List ℕ) → Option (List ℕ) → Option (List ℕ) → Type 0
+  IsHalted fault all old new keep =
+      IfSome all (λ rows. (out : List ℕ) × (kept : List ℕ) × IsBookOutputAtError fault rows out kept × Appends old new out × Appends (keep_of k) keep kept)
 
-  by_rows : (b : KeptRows K) (all : Option Rows) (old new keep : Option (List ℕ)) → IsPrefixAnswered (IsRowKept contents) 1000000 all k b old new
-      → ((text : List ℕ) → Appends (contents k.keep) (contents b.keep) text → Appends (contents k.keep) keep text) → IsHalted (book_error.Run run_error.Memory) all old new keep
-  by_rows b None old new keep a kept = tt
-  by_rows b (Some rows) old new keep a kept =
+  -- What has been written after a prefix of the rows.
+  abbrev HasBegun : Rows → Option (List ℕ) → Option (List ℕ) → Option (List ℕ) → Type 0
+  HasBegun rows old new keep = (out : List ℕ) × (kept : List ℕ) × IsBookBegun rows out kept × Appends old new out × Appends (keep_of k) keep kept
+
+  by_rows : (b : BookRows K) (rows : Rows) (old new : Option (List ℕ)) → IsPrefixAnswered (IsBookAnswer contents) 1000000 (Some rows) k b old new → HasBegun rows old new (keep_of b)
+  by_rows b rows old new a =
       let c = begun b rows old new a in
-      (a.lines, c.0.keep, record { done = a.done; rest = a.rest; after = c.0.state; first = c.2; keeps = c.3 }, a.written, kept c.0.keep c.1.written)
+      (a.lines, c.0.kept, record { done = a.done; rest = a.rest; after = c.0; first = c.2; whole_kept = refl }, a.written, c.1.written)
 
-  next_text : (place : ℕ) (b b' : KeptRows K) (s : KeptState) (done rest : Rows) (text : List ℕ) → IsBookAt place b s → run.IsNextOutput (IsRowKept contents) IsBookLast 1000000 done b rest text b'
-      → (more : List ℕ) × IsNextBookText done s.state rest text more × Appends (contents b.keep) (contents b'.keep) more
-  next_text place b b' s done [] text at next = ([], (next.0 s.state at.kept, refl), rw next.1 (Appends-nil (contents b.keep)))
-  next_text place b b' s done (fields ∷ rest) text at (inl next) =
-      let row = next.1 in
-      let one = row.answered.lead s.state at.kept in
-      (row.text, inl (next.0, one.0, one.2.0, one.2.1), row.written)
-  next_text place b b' s done (fields ∷ rest) text at (inr next) = ([], inr (next.0, next.1 s.state at.kept, refl), rw next.2 (Appends-nil (contents b.keep)))
+  -- the run stops because memory is refused between two rows
+  stops_between : (all : Option Rows) (b : BookRows K) (old new : Option (List ℕ)) → IsPrefixAnswered (IsBookAnswer contents) 1000000 all k b old new → IsHalted error.Memory all old new (keep_of b)
+  stops_between None b old new a = tt
+  stops_between (Some rows) b old new a = let h = by_rows b rows old new a in (h.0, h.1, inl h.2, h.3, h.4)
 
-  -- If the answer to a row fails, memory was refused, or the row's text wasn't written whole to the
-  -- accepted rows' writer `keep`.
-  stops_at_row : (fault : BookError) (all : Option Rows) (b : KeptRows K) (old new : Option (List ℕ)) → FailsAtRow (IsRowKept contents) (IsRowNotKept contents fault) 1000000 all k b old new
-      → IsHalted fault all old new (contents b.keep)
-  stops_at_row (book_error.Run run_error.Memory) all b old new a =
-      by_rows a.before all old new (contents b.keep) a.begun (λ text kept. Appends-kept (contents k.keep) (contents a.before.keep) (contents b.keep) text kept a.failed.0)
-  stops_at_row (book_error.Keep written) None b old new a = tt
-  stops_at_row (book_error.Keep written) (Some rows) b old new a =
-      let r = a.begun in
-      let c = begun a.before rows old new r in
-      let cut = a.failed in
-      let one = cut.3.lead c.0.state c.1.kept in (
-        r.lines,
-        c.0.keep ++ take written cut.1,
-        record {
-          done = r.done;
-          fields = a.fields;
-          rest = a.more;
-          before = c.0.keep;
-          after = c.0.state;
-          first = subst (λ rest. AreFirstBookRows rows r.done rest r.lines c.0.state) a.next c.2;
-          few = a.few;
-          keeps = c.3;
-          line = cut.0;
-          next = one.0;
-          answered = one.2.0;
-          part = subst (λ (x : List ℕ). written < length x) one.2.1 cut.4;
-          whole_kept = ap (λ (x : List ℕ). c.0.keep ++ take written x) one.2.1;
-        },
-        r.written,
-        Appends-trans (contents k.keep) (contents a.before.keep) (contents b.keep) c.0.keep (take written cut.1) c.1.written cut.5,
-      )
-  stops_at_row other all b old new a = absurd a.failed
+  stops_reading : (all : Option Rows) (b : BookRows K) (old new : Option (List ℕ)) → IsPrefixAnswered (IsBookAnswer contents) 1000000 all k b old new → IsHalted error.Read all old new (keep_of b)
+  stops_reading None b old new a = tt
+  stops_reading (Some rows) b old new a = by_rows b rows old new a
+
+  next_text : (place : ℕ) (b b' : BookRows K) (s : KeptRunState) (done rest : Rows) (text : List ℕ) → IsBookAt place b s → place ≡ suc (length done)
+      → run.IsNextOutput (IsBookAnswer contents) IsBookLast 1000000 done b rest text b'
+      → (t : KeptRunState) × IsNextBookText done s rest text t × Appends (keep_of k) (keep_of b') t.kept
+  next_text place b b' s done [] text at is next =
+      (s, (next.0 s.run at.keeps, refl), subst (λ (x : BookRows K). Appends (keep_of k) (keep_of x) s.kept) (sym next.1) at.written)
+  next_text place b b' s done (fields ∷ rest) text at is (inl next) =
+      let one = one_row (suc (length done)) b b' s fields text (subst (λ (n : ℕ). IsBookAt n b s) is at) next.1 in
+      (one.0, inl (next.0, one.2), one.1.written)
+  next_text place b b' s done (fields ∷ rest) text at is (inr next) =
+      (s, inr (next.0, next.1 s.run at.keeps, refl), subst (λ (x : BookRows K). Appends (keep_of k) (keep_of x) s.kept) (sym next.2) at.written)
+
+  -- The answer to a row fails because memory is refused. If a write to the writer `keep` failed at
+  -- this row, the first bytes of the row's text are written.
+  module _ (rows : Rows) (b b' : BookRows K) (old new : Option (List ℕ)) (a : IsPrefixAnswered (IsBookAnswer contents) 1000000 (Some rows) k b old new) (fields : List (List ℕ)) (more : Rows)
+      (next : a.rest ≡ fields ∷ more) (few : length a.done < 1000000) where
+    same_keep : b'.rows.sink.keeping ≡ b.rows.sink.keeping → IsHalted error.Memory (Some rows) old new (keep_of b')
+    same_keep same =
+        let h = by_rows b rows old new a in
+        (h.0, h.1, inl h.2, h.3, subst (λ (x : Keeping K). Appends (keep_of k) (contents x.keep) h.1) (sym same) h.4)
+
+    unsaid : (s : KeptRunState) → IsBookAt (1 + length a.done) b s → AreFirstBookRows rows a.done a.rest a.lines s → (line : List ℕ) (t : BookRunState) (row : BookRow) → book_row_of fields ≡ Ok row
+        → IsRowFailed contents s.run fields row line t b.rows.sink.keeping b'.rows.sink.keeping → IsHalted error.Memory (Some rows) old new (keep_of b')
+    unsaid s at begins line t row read f =
+        let text = take f.written (kept_as s.run fields row f.next) in (
+          a.lines,
+          s.kept ++ text,
+          inr (record {
+            done = a.done;
+            fields = fields;
+            rest = more;
+            before = s;
+            first = subst (λ (rest : Rows). AreFirstBookRows rows a.done rest a.lines s) next begins;
+            few = few;
+            line = line;
+            after = record { run = t; stopped = true; kept = s.kept ++ text };
+            cut_off = cut_off_row contents (suc (length a.done)) s fields line t row b.rows.sink.keeping b'.rows.sink.keeping read at.stopped f;
+            whole_kept = refl;
+          }),
+          a.written,
+          Appends-trans (keep_of k) (keep_of b) (keep_of b') s.kept text at.written f.cut_off.front,
+        )
+
+    lost_at_row : (s : KeptRunState) → IsBookAt (1 + length a.done) b s → AreFirstBookRows rows a.done a.rest a.lines s → (row : Result BookRow RowError) → book_row_of fields ≡ row
+        → IsAnsweredLost contents fields row b.rows b'.rows → IsHalted error.Memory (Some rows) old new (keep_of b')
+    lost_at_row s at begins (Err e) read lost = same_keep lost
+    lost_at_row s at begins (Ok row) read lost = elim (lost s.run at.keeps) [
+      | inl same ↦ same_keep same
+      | inr (line, t, f) ↦ unsaid s at begins line t row read f
+    ]
+
+  stops_at_row : (fault : AllocError) (all : Option Rows) (b : BookRows K) (old new : Option (List ℕ)) → FailsAtRow (IsBookAnswer contents) (Fails fault) 1000000 all k b old new
+      → IsHalted error.Memory all old new (keep_of b)
+  stops_at_row fault None b old new a = tt
+  stops_at_row fault (Some rows) b old new a =
+      let c = begun a.before rows old new a.begun in
+      lost_at_row rows a.before b old new a.begun a.fields a.more a.next a.few c.0 c.1 c.2 (book_row_of a.fields) refl a.failed
 
   -- the output of a run that stops
-  pub run_stops : (why : RunStop BookError) (all : Option (List (List (List ℕ)))) (failed : Bool) (b : KeptRows K) (old new : Option (List ℕ))
-      → IsRunStopped (IsRowKept contents) (IsRowNotKept contents) IsBookLast 1000000 why all failed k b old new
-      → IfSome all (λ rows. (out : List ℕ) × (kept : List ℕ) × IsBookOutputAtError (book_error_of why) rows out kept × Appends old new out × Appends (contents k.keep) (contents b.keep) kept)
-  run_stops run_stop.Memory all failed b old new a = by_rows b all old new (contents b.keep) a (λ text kept. kept)
-  run_stops run_stop.Read all failed b old new a = by_rows b all old new (contents b.keep) a.1 (λ text kept. kept)
+  pub run_stops : (why : RunStop AllocError) (all : Option (List (List (List ℕ)))) (failed : Bool) (b : BookRows K) (old new : Option (List ℕ))
+      → IsRunStopped (IsBookAnswer contents) Fails IsBookLast 1000000 why all failed k b old new
+      → IfSome all (λ rows. (out : List ℕ) × (kept : List ℕ) × IsBookOutputAtError (solve_error_of why) rows out kept × Appends old new out
+      × Appends (contents k.rows.sink.keeping.keep) (contents b.rows.sink.keeping.keep) kept)
+  run_stops run_stop.Memory all failed b old new a = stops_between all b old new a
+  run_stops run_stop.Read all failed b old new a = stops_reading all b old new a.1
   run_stops (run_stop.Answer fault) all failed b old new a = stops_at_row fault all b old new a
   run_stops (run_stop.Write written) None failed b old new a = tt
   run_stops (run_stop.Write written) (Some rows) failed b old new a =
       let r = a.begun in
       let c = begun a.before rows old a.mid r in
-      let next = next_text (1 + length r.done) a.before b c.0 r.done r.rest a.text c.1 a.next in (
+      let next = next_text (1 + length r.done) a.before b c.0 r.done r.rest a.text c.1 (omega arith) a.next in (
         r.lines ++ take a.size a.text,
-        c.0.keep ++ next.0,
+        next.0.kept,
         (
           record {
             done = r.done;
             rest = r.rest;
             lines = r.lines;
-            before = c.0.keep;
-            after = c.0.state;
+            before = c.0;
             first = c.2;
-            keeps = c.3;
             text = a.text;
-            text_kept = next.0;
+            after = next.0;
             next = next.1;
             size = a.size;
             part = a.part;
@@ -212,30 +314,29 @@ module _ {K : Type 0} (contents : K → Option (List ℕ)) (k : KeptRows K) (fre
           a.bytes,
         ),
         a.written,
-        Appends-trans (contents k.keep) (contents a.before.keep) (contents b.keep) c.0.keep next.0 c.1.written next.2,
+        next.2,
       )
 
-  pub read_failed : (why : RunStop BookError) (all : Option (List (List (List ℕ)))) (failed : Bool) (b : KeptRows K) (old new : Option (List ℕ))
-      → IsRunStopped (IsRowKept contents) (IsRowNotKept contents) IsBookLast 1000000 why all failed k b old new → book_error_of why ≡ book_error.Run run_error.Read → failed ≡ true
+  pub read_failed : (why : RunStop AllocError) (all : Option (List (List (List ℕ)))) (failed : Bool) (b : BookRows K) (old new : Option (List ℕ))
+      → IsRunStopped (IsBookAnswer contents) Fails IsBookLast 1000000 why all failed k b old new → solve_error_of why ≡ error.Read → failed ≡ true
   read_failed run_stop.Read all failed b old new a is = a.0
-  read_failed (run_stop.Answer fault) all failed b old new a is = absurd (subst (λ (x : BookError). IsRowNotKept contents x (suc (length a.begun.done)) a.before a.fields b) is a.failed)
   read_failed other all failed b old new a is = absurd (cc is)
 
 -- A run that stops before its first row has written no lines, and nothing to the accepted rows'
 -- writer `keep`.
 pub halted_at_start : (bytes old keep : Option (List ℕ))
-    → IfSome bytes (λ text. (out : List ℕ) × (kept : List ℕ) × IsBookBegun (rows_of text) out kept × Appends old old out × Appends keep keep kept)
+    → IfSome bytes (λ text. (out : List ℕ) × (kept : List ℕ) × IsBookOutputAtError error.Memory (rows_of text) out kept × Appends old old out × Appends keep keep kept)
 halted_at_start None old keep = tt
 halted_at_start (Some text) old keep = (
   [],
   [],
-  record {
+  inl (record {
     done = [];
     rest = rows_of text;
-    after = book_start;
-    first = record { split = refl; few = omega arith; answered = none_answered book_answers 1 book_start };
-    keeps = none_answered kept_answers 1 book_start;
-  },
+    after = kept_start;
+    first = record { split = refl; few = omega arith; answered = none_answered kept_run_answers 1 kept_start };
+    whole_kept = refl;
+  }),
   Appends-nil old,
   Appends-nil keep,
 )

@@ -39,6 +39,7 @@ use Rattle.cspf_book_run.specs.BookRows.{at_lowest_setup, placed_as_asked, place
 use Rattle.cspf_book_run.specs.BookScript.{BookRunState, book_start, book_answers, open_base_batch, after_refusal, after_open_change, after_answer, after_base_batch, IsBaseAccepted, AreBaseLines, IsPlaceAnswered, IsBookStepAnswered, IsBookRowAnswered}
 use Rattle.cspf_book_run.specs.Kept.{kept_answers, kept_of, text_of_row, text_of_step}
 use Rattle.cspf_book_run.specs.KeptLaws.{KeptIsTheBook}
+use Rattle.cspf_book_run.proofs.BookSteps.{another_version}
 use Rattle.cspf_book_run.proofs.KeptTexts.{StartsPlain, IsPlainRecord, kept_cut, change_plain, end_plain, lines_rows, rows_start}
 
 -- ---- the ranges of the numbers in a row
@@ -249,9 +250,6 @@ nothing_kept s t text book batches few = record {
   few = omega (arith, few);
   runs = λ a. (a, [], λ p. none_answered p (bare s.book s.batches a) (bare t.book t.batches a) (bare_same s t a book batches));
 }
-
-another_version : (old new : ℕ) → new ≡ old + 1 → (new == old) ≡ false
-another_version old new rises = elim (cases_Bool (new == old)) [ inl same ↦ absurd (omega (arith, eqb-true new old same, rises)) | inr other ↦ other ]
 
 -- Let a row make a new version of the book, and let its text for the writer `keep` be the text of
 -- the row itself. If a run over just this row leads to the same book, `Remakes` holds for this row.

@@ -1,11 +1,12 @@
 -- The lemmas of this crate's proofs.
 pub mod BookRowLemmas
 pub mod BookSteps
+pub mod ReplyLines
 pub mod PlaceSteps
-pub mod KeptSteps
 pub mod BookRun
 pub mod LostOnce
 pub mod BookOneReply
+pub mod KeptOnce
 pub mod BookCovered
 pub mod KeptTexts
 pub mod KeptBook
@@ -13,4 +14,5 @@ pub mod OverTexts
 pub mod OverExact
 pub mod OverOnly
 pub mod BookRanges
+pub mod StoppedRuns
 pub mod WrongRunProofs

@@ -5,6 +5,7 @@ use Rattle.hex.specs.Hex.{encode_with, encode_lower, lower_digits}
 use Rattle.cspf_addr.specs.declared.hop_reader.HopsError.TheVariants as hops
 use Rattle.cspf_model.specs.Best.{Answer, unknown_from, unknown_to, no_route, route}
 use Rattle.cspf_model.specs.Walks.{cost_of}
+use Rattle.cspf_model.specs.declared.link.Link.{Link}
 use Rattle.cspf_model.specs.declared.refusal.Refusal.{Refusal}
 use Rattle.cspf_model.specs.declared.refusal.Refusal.TheVariants as unfit
 use Rattle.cspf_ero.specs.Objects.{object_of}
@@ -27,7 +28,7 @@ use Rattle.cspf_book.specs.OverLinks.{over_at}
 use Rattle.cspf_book_run.specs.BookLines.{over_line, IsPlaceReply, place_words, release_words}
 use Rattle.cspf_book_run.specs.BookRows.{book_row_of}
 use Rattle.cspf_book_run.specs.BookScript.{BookRunState, book_answers, IsBookStepAnswered, IsBookRowAnswered}
-use Rattle.cspf_book_run.specs.BookScriptLaws.{OnlyBatchesSayOver}
+use Rattle.cspf_book_run.specs.BookScriptLaws.{IsSaidOver, OnlyBatchesSayOver}
 use Rattle.cspf_book_run.specs.declared.book_row.BookRow.{BookRow}
 use Rattle.cspf_book_run.specs.declared.book_row.BookRow.TheVariants as book_row
 use Rattle.cspf_book_run.specs.declared.refusals.PlaceRefusal.{PlaceRefusal}
@@ -75,27 +76,28 @@ skips_unfit (unfit.Duplicate at) = named (codes "duplicate ") at refl
 skips_unfit (unfit.Absent at) = named (codes "absent ") at refl
 skips_unfit other = skips_plain (unfit_words other) refl
 
-skips_batch : (why : BatchRefusal) → Skips (batch_words why)
+pub skips_batch : (why : BatchRefusal) → Skips (batch_words why)
 skips_batch (refusal.WrongNumber expected) = named (codes "expected ") expected refl
 skips_batch (refusal.WrongCount counted) = named (codes "counted ") counted refl
 skips_batch (refusal.Unfit why) = skips_unfit why
 skips_batch (refusal.Journal written) = named (codes "journal ") written refl
+skips_batch (refusal.Keep written) = named (codes "keep ") written refl
 skips_batch other = skips_plain (batch_words other) refl
 
-skips_unplaced : (why : PlaceRefusal) → Skips (place_words why)
-skips_unplaced unplaced.Exhausted = skips_plain (codes "exhausted") refl
+pub skips_unplaced : (why : PlaceRefusal) → Skips (place_words why)
+skips_unplaced (unplaced.Keep written) = named (codes "keep ") written refl
 skips_unplaced other = skips_plain (place_words other) refl
 
-skips_unreleased : (why : ReleaseRefusal) → Skips (release_words why)
-skips_unreleased unreleased.Exhausted = skips_plain (codes "exhausted") refl
-skips_unreleased unreleased.Absent = skips_plain (codes "absent") refl
+pub skips_unreleased : (why : ReleaseRefusal) → Skips (release_words why)
+skips_unreleased (unreleased.Keep written) = named (codes "keep ") written refl
+skips_unreleased other = skips_plain (release_words other) refl
 
 -- ---- the lines
 
 -- A line of a refusal consists of a subject, a number, ` refused: ` and a reason. If `is_plain`
 -- holds for the subject, and no `ov` starts within the reason (`Skips`), no `ov` starts within the
 -- line.
-skips_refused : (subject words : List ℕ) (n : ℕ) → is_plain subject ≡ true → Skips words → Skips (subject ++ decimal n ++ codes " refused: " ++ words ++ codes "\n")
+pub skips_refused : (subject words : List ℕ) (n : ℕ) → is_plain subject ≡ true → Skips words → Skips (subject ++ decimal n ++ codes " refused: " ++ words ++ codes "\n")
 skips_refused subject words n plain skips =
     word_after (subject ++ decimal n ++ codes " refused: " ++ words) (codes "\n")
     (skips_append (subject ++ decimal n ++ codes " refused: ") words (word_after (subject ++ decimal n) (codes " refused: ") (named subject n plain) refl) skips) refl
@@ -149,13 +151,13 @@ skips_placed id version answer line (rest, reply, is) =
 -- ---- rows
 
 -- If the rows accept no base batch, their lines include no `over` line.
-abbrev SaysNone : BookRunState → BookRunState → List ℕ → Type 0
+abbrev pub SaysNone : BookRunState → BookRunState → List ℕ → Type 0
 SaysNone s t lines = (s.batches ≤ t.batches) × (t.batches ≡ s.batches → Skips lines)
 
 quiet : (s t : BookRunState) (lines : List ℕ) → t.batches ≡ s.batches → Skips lines → SaysNone s t lines
 quiet s t lines batches skips = (omega (arith, batches), λ _. skips)
 
-step_says : (s t : BookRunState) (row : Step) (line : List ℕ) → IsBookStepAnswered s row line t → SaysNone s t line
+pub step_says : (s t : BookRunState) (row : Step) (line : List ℕ) → IsBookStepAnswered s row line t → SaysNone s t line
 step_says s t (step.Change c) line a = quiet s t line (ap (λ (x : BookRunState). x.batches) a.1) (subst Skips (sym a.0) skips_none)
 step_says s t (step.Ask q) line (answer, best, reply, after) =
     quiet s t line (ap (λ (x : BookRunState). x.batches) after) (skips_reply q.id s.book.version answer line reply)
@@ -166,7 +168,7 @@ step_says s t (step.End number count) line (inr (why, unaccepted, is, line_is, a
     quiet s t line (ap (λ (x : BookRunState). x.batches) after)
     (subst Skips (sym line_is) (skips_refused (codes "batch ") (batch_words why) number refl (skips_batch why)))
 
-row_says : (place : ℕ) (s t : BookRunState) (r : Result BookRow RowError) (line : List ℕ) → IsBookRowAnswered place s r line t → SaysNone s t line
+pub row_says : (place : ℕ) (s t : BookRunState) (r : Result BookRow RowError) (line : List ℕ) → IsBookRowAnswered place s r line t → SaysNone s t line
 row_says place s t (Err e) line a =
     quiet s t line (ap (λ (x : BookRunState). x.batches) a.1)
     (subst Skips (sym a.0) (skips_refused (codes "row ") (row_words e) place refl (skips_row e)))
@@ -195,9 +197,12 @@ rows_say place s t (fields ∷ rows) lines a =
           (skips_append a.0 a.2 (first.1 (omega (arith, same, first.0, rest.0))) (rest.1 (omega (arith, same, first.0, rest.0)))),
     )
 
-pub only_batches_say : OnlyBatchesSayOver
-only_batches_say place s t rows lines a same l priority (before, after, is) =
-    let skips = (rows_say place s t rows lines a).1 same in
+-- If no `ov` starts within the lines (`Skips`), they include no `over` line.
+pub says_none_over : (lines : List ℕ) → Skips lines → (l : Link) (priority : ℕ) → ¬ IsSaidOver lines l priority
+says_none_over lines skips l priority (before, after, is) =
     let left = skips [] before ((words (over_at l priority) ++ 10 ∷ []) ++ after)
     (append-nil lines ∙ is ∙ append_assoc before (over_line (over_at l priority)) after) in
     none_left left.0 _ left.1
+
+pub only_batches_say : OnlyBatchesSayOver
+only_batches_say place s t rows lines a same l priority said = says_none_over lines ((rows_say place s t rows lines a).1 same) l priority said

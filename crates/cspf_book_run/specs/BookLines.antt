@@ -32,22 +32,26 @@ IsPlaceReply id version answer line = (rest : List ℕ) × IsReply id version an
 abbrev pub released_line : ℕ → ℕ → List ℕ
 released_line id version = codes "released " ++ decimal id ++ codes " v" ++ decimal version ++ codes "\n"
 
--- the word that says why a request isn't placed
+-- the words that say why a request isn't placed
 abbrev pub place_words : PlaceRefusal → List ℕ
+place_words place.Stopped = codes "stopped"
 place_words place.Exhausted = codes "exhausted"
 place_words place.Full = codes "full"
 place_words place.Links = codes "links"
 place_words place.Twice = codes "twice"
 place_words place.Long = codes "long"
+place_words (place.Keep written) = codes "keep " ++ decimal written
 
 -- the line that says why the request with this id isn't placed
 abbrev pub refused_place_line : ℕ → PlaceRefusal → List ℕ
 refused_place_line id why = codes "place " ++ decimal id ++ codes " refused: " ++ place_words why ++ codes "\n"
 
--- the word that says why no placement is released
+-- the words that say why no placement is released
 abbrev pub release_words : ReleaseRefusal → List ℕ
+release_words release.Stopped = codes "stopped"
 release_words release.Exhausted = codes "exhausted"
 release_words release.Absent = codes "absent"
+release_words (release.Keep written) = codes "keep " ++ decimal written
 
 -- the line that says why no placement with this id is released
 abbrev pub refused_release_line : ℕ → ReleaseRefusal → List ℕ

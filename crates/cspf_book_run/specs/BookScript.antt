@@ -1,6 +1,7 @@
--- Which lines a run of a book writes for a stream of rows, and the summary of the run. The stream
--- and the lines are lists of bytes.
-use Rattle.std.specs.Prelude.{◌≡◌, ℕ, ◌+◌, ◌<◌, ◌≤◌, ◌⊎◌, Bool, IsTrue, List, [], ◌∷◌, ◌++◌, take, length, Result, Ok, Err}
+-- Which lines a book writes for a stream of rows, as long as no write to `keep`, the writer of
+-- accepted rows, fails. The stream and the lines are lists of bytes. `KeptRuns.antt` defines a
+-- whole run, in which a write may fail.
+use Rattle.std.specs.Prelude.{◌≡◌, ℕ, ◌+◌, ◌<◌, ◌≤◌, ◌⊎◌, Bool, IsTrue, List, [], ◌∷◌, ◌++◌, Result, Ok, Err}
 use Rattle.std.specs.List.{flat_map}
 use Rattle.cspf_model.specs.declared.batch.Change.{Change}
 use Rattle.cspf_book_run.specs.declared.limits.TheConstants.{MOST_PLACING_VERSIONS}
@@ -9,19 +10,17 @@ use Rattle.cspf_model.specs.Best.{Answer, IsBestAnswer}
 use Rattle.cspf_model.specs.Changes.{after_changes, no_links}
 use Rattle.cspf_model.specs.Numbered.{NumberedChanges}
 use Rattle.cspf_ero.specs.ReplyLine.{IsReply}
-use Rattle.cspf_rows.specs.declared.limits.TheConstants.{MOST_ROWS}
 use Rattle.cspf_rows.specs.declared.row_error.RowError.{RowError}
-use Rattle.cspf_rows.specs.Records.{rows_of}
 use Rattle.cspf_stream.specs.declared.batch_refusal.BatchRefusal.{BatchRefusal}
 use Rattle.cspf_stream.specs.EndRows.{IsBatchAccepted, IsBatchRefusal}
-use Rattle.cspf_stream.specs.Lines.{refused_batch_line, last_line}
+use Rattle.cspf_stream.specs.Lines.{refused_batch_line}
 use Rattle.cspf_stream.specs.RefusedRows.{refused_row_line}
 use Rattle.cspf_stream.specs.RowAnswers.{AnswersOf, AreAnswered}
 use Rattle.cspf_rows.specs.Steps.{step_of}
 use Rattle.cspf_rows.specs.declared.step.Step.{Step}
 use Rattle.cspf_rows.specs.declared.step.Step.TheVariants as step
 use Rattle.cspf_solve.specs.declared.summary.Summary.{Summary}
-use Rattle.cspf_solve.specs.Script.{is_too_many, unended_count}
+use Rattle.cspf_solve.specs.Script.{unended_count}
 use Rattle.cspf_book.specs.declared.error.PlaceError.TheVariants.{Full, TooManyLinks, Twice, TooLong}
 use Rattle.cspf_book.specs.Placements.{has_id, others}
 use Rattle.cspf_book.specs.Effective.{effective}
@@ -135,13 +134,15 @@ IsAskAnswered s q line after =
     (answer : Answer) × IsBestAnswer (effective s.book.base s.book.placements) q answer
     × IsReply q.id s.book.version answer line × (after ≡ after_answer s s.book)
 
--- why a request isn't placed; the first of these reasons that applies is given
+-- Why a request isn't placed. The first of these reasons that applies is given. `Stopped` and `Keep`
+-- never apply here, because no write fails.
 abbrev pub IsPlaceRefusal : BookRunState → Request → PlaceRefusal → Type 0
 IsPlaceRefusal s q unplaced.Exhausted = MOST_PLACING_VERSIONS ≤ s.book.version
 IsPlaceRefusal s q unplaced.Full = (s.book.version < MOST_PLACING_VERSIONS) × IsPlaceError s.book q Full
 IsPlaceRefusal s q unplaced.Links = (s.book.version < MOST_PLACING_VERSIONS) × IsPlaceError s.book q TooManyLinks
 IsPlaceRefusal s q unplaced.Twice = (s.book.version < MOST_PLACING_VERSIONS) × IsPlaceError s.book q Twice
 IsPlaceRefusal s q unplaced.Long = (s.book.version < MOST_PLACING_VERSIONS) × IsPlaceError s.book q TooLong
+IsPlaceRefusal s q other = ⊥
 
 -- A `place` row is answered with the best answer in the effective database, in which the request's
 -- earlier placement isn't counted. If the answer is a route, the request is placed along this
@@ -161,10 +162,12 @@ IsPlaceTaken s q hold line after =
     (IsPlaceAnswered s q hold line after.book × (after ≡ after_answer s after.book))
     ⊎ ((why : PlaceRefusal) × IsPlaceRefusal s q why × (line ≡ refused_place_line q.id why) × (after ≡ after_refusal s))
 
--- why no placement with this id is released; the first of these reasons that applies is given
+-- Why no placement with this id is released. The first of these reasons that applies is given.
+-- `Stopped` and `Keep` never apply here, because no write fails.
 abbrev pub IsReleaseRefusal : BookRunState → ℕ → ReleaseRefusal → Type 0
 IsReleaseRefusal s id unreleased.Exhausted = MOST_PLACING_VERSIONS ≤ s.book.version
 IsReleaseRefusal s id unreleased.Absent = (s.book.version < MOST_PLACING_VERSIONS) × (¬ IsTrue (has_id id s.book.placements))
+IsReleaseRefusal s id other = ⊥
 
 -- A `release` row releases a placement, or it is refused and the book is unchanged.
 abbrev pub IsReleaseTaken : BookRunState → ℕ → List ℕ → BookRunState → Type 0
@@ -208,15 +211,3 @@ book_summary_of rows s too_many = record {
   refused = s.refused + unended_count too_many s.changes;
   too_many = too_many;
 }
-
--- A run over rows: the first 1,000,000 rows are answered one after the other, and then the last line is written.
-pub record IsBookRun (rows : List (List (List ℕ))) (lines : List ℕ) (summary : Summary) : Type 0 where
-  pub replies : List ℕ
-  pub after : BookRunState
-  pub answered : AreBookRowsAnswered (take MOST_ROWS rows) replies after
-  pub whole : lines ≡ replies ++ last_line (is_too_many rows) after.changes
-  pub counts : summary ≡ book_summary_of (length (take MOST_ROWS rows)) after (is_too_many rows)
-
--- a run over the rows that a stream of bytes has
-abbrev pub IsBookScript : List ℕ → List ℕ → Summary → Type 0
-IsBookScript bytes lines summary = IsBookRun (rows_of bytes) lines summary

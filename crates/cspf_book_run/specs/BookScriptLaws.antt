@@ -1,5 +1,5 @@
 -- Laws of each run of a book.
-use Rattle.std.specs.Prelude.{◌≡◌, ◌<◌, ◌^◌, ◌⊎◌, ◌↔◌, ℕ, List, ◌++◌, Contains, slice_index}
+use Rattle.std.specs.Prelude.{◌≡◌, ◌<◌, ◌^◌, ◌⊎◌, ◌↔◌, ℕ, true, false, List, ◌++◌, length, Contains, slice_index}
 use Rattle.std.specs.List.{AllByRecursion}
 use Rattle.cspf_model.specs.declared.batch.Change.TheVariants.{Put}
 use Rattle.cspf_model.specs.declared.link.Link.{Link}
@@ -13,14 +13,23 @@ use Rattle.cspf_book.specs.BookState.{BookState}
 use Rattle.cspf_book.specs.OverLinks.{over_at}
 use Rattle.cspf_book.specs.Laws.{IsCovered}
 use Rattle.cspf_book_run.specs.BookLines.{over_line}
-use Rattle.cspf_book_run.specs.BookScript.{BookRunState, IsBookRun, AreBaseLines, book_answers}
+use Rattle.cspf_book_run.specs.BookScript.{BookRunState, AreBaseLines, book_answers}
+use Rattle.cspf_book_run.specs.KeptRuns.{KeptRunState, IsBookRun}
 
--- The rows of a run determine its lines and its summary: two runs over the same rows have the same
--- lines and the same summary.
+-- In both states no write to `keep`, the writer of accepted rows, has failed. Or one has failed in
+-- both, and the same number of bytes was written to `keep`.
+abbrev pub HaveKeptAlike : KeptRunState → KeptRunState → Type 0
+HaveKeptAlike s t =
+    ((s.stopped ≡ false) × (t.stopped ≡ false)) ⊎ ((s.stopped ≡ true) × (t.stopped ≡ true) × (length s.kept ≡ length t.kept))
+
+-- The rows of a run determine its lines, what it writes to `keep`, and its summary, if no write to
+-- `keep` fails. If one fails, the rows determine them together with the number of bytes that were
+-- written to `keep`.
 abbrev pub BooksHaveOneReply : Type 0
 BooksHaveOneReply =
-    (rows : List (List (List ℕ))) (first second : List ℕ) (a b : Summary) → IsBookRun rows first a → IsBookRun rows second b
-    → (first ≡ second) × (a ≡ b)
+    (rows : List (List (List ℕ))) (first second kept other : List ℕ) (a b : Summary)
+    → (one : IsBookRun rows first kept a) → (two : IsBookRun rows second other b) → HaveKeptAlike one.after two.after
+    → (first ≡ second) × (kept ≡ other) × (a ≡ b)
 
 -- Each link of the base is covered at each priority: the placements count on it at most its
 -- unreserved bandwidth.

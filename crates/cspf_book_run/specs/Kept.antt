@@ -1,8 +1,7 @@
--- The text of the rows that a run accepts, which the run writes to its writer `keep`. A run over
--- this text ends with the same book as the run over all rows.
-use Rattle.std.specs.Prelude.{◌≡◌, ◌==◌, if◌then◌else◌, ℕ, List, [], take, Result, Ok, Err}
+-- The text of the rows that a book accepts, which goes to the writer `keep`. A run over this text
+-- ends with the same book as the run over all rows.
+use Rattle.std.specs.Prelude.{◌≡◌, ◌==◌, if◌then◌else◌, ℕ, List, [], Result, Ok, Err}
 use Rattle.csv.specs.Writing.{default_writer, row_text}
-use Rattle.cspf_rows.specs.declared.limits.TheConstants.{MOST_ROWS}
 use Rattle.cspf_rows.specs.declared.row_error.RowError.{RowError}
 use Rattle.cspf_rows.specs.BatchText.{batch_text}
 use Rattle.cspf_stream.specs.RowAnswers.{AnswersOf, AreAnswered}
@@ -44,8 +43,3 @@ kept_answers place s fields text t = (line : List ℕ) × book_answers place s f
 -- `after`. `text` goes to `keep`, the writer of accepted rows, for these rows.
 abbrev pub AreBookRowsKept : List (List (List ℕ)) → List ℕ → BookRunState → Type 0
 AreBookRowsKept rows text after = AreAnswered kept_answers 1 book_start rows text after
-
--- `text` goes to `keep`, the writer of accepted rows, in a run over these rows. The run answers the
--- first 1,000,000 rows.
-abbrev pub IsKeptText : List (List (List ℕ)) → List ℕ → Type 0
-IsKeptText rows text = (after : BookRunState) × AreBookRowsKept (take MOST_ROWS rows) text after

@@ -3,8 +3,10 @@ pub mod BookRows
 pub mod BookLines
 pub mod PlaceErrors
 pub mod BookScript
+pub mod Keeping
 pub mod BookSinks
 pub mod Kept
+pub mod KeptRuns
 pub mod BookOutput
 pub mod BookScriptLaws
 pub mod WrongRuns

@@ -2,6 +2,10 @@
 use Rattle.std.specs.Prelude.{Option, Some, None}
 use Rattle.cspf_book.specs.declared.error.PlaceError.{PlaceError}
 use Rattle.cspf_book.specs.declared.error.PlaceError.TheVariants as place_error
+use Rattle.cspf_book.specs.declared.error.VersionError.{VersionError}
+use Rattle.cspf_book.specs.declared.error.VersionError.TheVariants as version_error
+use Rattle.cspf_book_run.specs.declared.keeper.Unkept.{Unkept}
+use Rattle.cspf_book_run.specs.declared.keeper.Unkept.TheVariants as unkept
 use Rattle.cspf_book_run.specs.declared.refusals.PlaceRefusal.{PlaceRefusal}
 use Rattle.cspf_book_run.specs.declared.refusals.PlaceRefusal.TheVariants as unplaced
 
@@ -13,3 +17,10 @@ place_refusal_of place_error.Full = Some unplaced.Full
 place_refusal_of place_error.TooManyLinks = Some unplaced.Links
 place_refusal_of place_error.Twice = Some unplaced.Twice
 place_refusal_of place_error.TooLong = Some unplaced.Long
+
+-- The refusal that the run writes if a request isn't placed: for a reason of the book, or because a
+-- write of the row's text failed. If memory is refused, there is no refusal, and the run ends.
+abbrev pub refusal_of_placing : VersionError PlaceError Unkept → Option PlaceRefusal
+refusal_of_placing (version_error.Book why) = place_refusal_of why
+refusal_of_placing (version_error.Taker unkept.Memory) = None
+refusal_of_placing (version_error.Taker (unkept.Failed written)) = Some (unplaced.Keep written)

@@ -2,7 +2,7 @@
 //! contract is the law.
 ghost use Rattle.cspf_book_run.specs.BookScript.{book_start};
 ghost use Rattle.cspf_book_run.specs.BookScriptLaws.{BooksHaveOneReply, IsBookCovered, IsBookInRange, RowsCoverSince, BaseLinesAreExact, OnlyBatchesSayOver, RowsKeepRange};
-ghost use Rattle.cspf_book_run.specs.KeptLaws.{KeptIsTheBook};
+ghost use Rattle.cspf_book_run.specs.KeptLaws.{KeptIsTheBook, KeptRunIsTheBook, RunsStopOnce};
 ghost use Rattle.cspf_book_run.specs.WrongRuns.{WeakerLawsFollow, ExcuseEndsWithCover, OtherLinkIsNoExcuse, OtherPriorityIsNoExcuse, UntrueOverIsRefused};
 
 use cspf_addr::{addresses_are_spelled_once, masks_are_spelled};
@@ -11,7 +11,8 @@ use cspf_model::{one_best_answer, one_refusal};
 use cspf_rows::{rows_are_read, rows_are_read_back};
 
 /// Law: the rows of a run determine its lines. Two runs over the same rows write the same lines and
-/// have the same summary.
+/// have the same summary, if no write to `keep` fails in them. If one fails in each of them, and
+/// both have written the same number of bytes to `keep`, they also write the same lines.
 pub fn one_reply_of_books()
     ensures { BooksHaveOneReply }
 {
@@ -69,12 +70,20 @@ pub fn worked_covers()
     addresses_are_spelled_once();
 }
 
+/// Law: a write to `keep` fails at no row of a run, or at one row. This row is refused, and each
+/// later row that could change the book. So the book is then as it was before the row.
+pub fn runs_stop_once()
+    ensures { RunsStopOnce }
+{}
+
 /// Law: the texts of accepted rows, which a run writes to `keep`, restore the book. A run over
 /// these texts ends with the same base, version and placements as the run over the rows. The run
 /// over the texts refuses no row, and at its end no changes are open. The texts have at most as
-/// many rows as were answered.
+/// many rows as were answered. If a write to `keep` has failed, this is true of what was written to
+/// it before the row at which it failed.
 pub fn kept_is_the_book()
-    ensures { KeptIsTheBook }
+    ensures whole { KeptIsTheBook }
+    ensures run { KeptRunIsTheBook }
 {
     // Law: a record is read as a row exactly if the record says this row (`Says`). Law: the record
     // that is written for a row is read as this row. Law: the text of a mask is read as this mask.

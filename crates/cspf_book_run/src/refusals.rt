@@ -1,14 +1,17 @@
 //! Why a book refuses a `place` or `release` row.
 ghost use Rattle.std.specs.Prelude.{◌≡◌};
-ghost use Rattle.cspf_book_run.specs.PlaceErrors.{place_refusal_of};
+ghost use Rattle.cspf_book_run.specs.PlaceErrors.{place_refusal_of, refusal_of_placing};
 
-use cspf_book::PlaceError;
+use crate::keeper::Unkept;
+use cspf_book::{PlaceError, VersionError};
 use std::error::Error;
 use std::fmt;
 
 /// Why a request isn't placed.
 #[derive(Clone, Copy, Debug, PartialEq, Eq)]
 pub enum PlaceRefusal {
+    /// A write of an earlier row's text failed, so no more rows are accepted.
+    Stopped,
     /// The version is at least `MOST_PLACING_VERSIONS`.
     Exhausted,
     /// The book already has `MOST_PLACEMENTS` placements with other ids.
@@ -19,6 +22,11 @@ pub enum PlaceRefusal {
     Twice,
     /// The best route has more than `MOST_PLACED_LINKS` links.
     Long,
+    /// A write of this row's text failed.
+    Keep {
+        /// How many bytes of the text were written.
+        written: usize,
+    },
 }
 
 impl fmt::Display for PlaceRefusal {
@@ -29,11 +37,13 @@ impl fmt::Display for PlaceRefusal {
 
     fn fmt<W: fmt::Write>(&self, f: &mut fmt::Formatter<W>) -> fmt::Result {
         match self {
+            PlaceRefusal::Stopped => f.write_str("stopped"),
             PlaceRefusal::Exhausted => f.write_str("exhausted"),
             PlaceRefusal::Full => f.write_str("full"),
             PlaceRefusal::Links => f.write_str("links"),
             PlaceRefusal::Twice => f.write_str("twice"),
             PlaceRefusal::Long => f.write_str("long"),
+            PlaceRefusal::Keep { written } => write!(f, "keep {written}"),
         }
     }
 }
@@ -54,15 +64,37 @@ impl PlaceRefusal {
             PlaceError::Memory => None,
         }
     }
+
+    /// The refusal that the run reports if a request isn't placed for a reason of the book, or
+    /// because its row isn't written. The result is `None` if memory was refused; this ends the
+    /// run.
+    pub(crate) fn of_placing(why: VersionError<PlaceError, Unkept>) -> Option<PlaceRefusal>
+        ensures { result ≡ refusal_of_placing why }
+    {
+        match why {
+            VersionError::Book(why) => PlaceRefusal::of(why),
+            VersionError::Taker(why) => match why {
+                Unkept::Failed { written } => Some(PlaceRefusal::Keep { written }),
+                Unkept::Memory => None,
+            },
+        }
+    }
 }
 
 /// Why no placement is released.
 #[derive(Clone, Copy, Debug, PartialEq, Eq)]
 pub enum ReleaseRefusal {
+    /// A write of an earlier row's text failed, so no more rows are accepted.
+    Stopped,
     /// The version is at least `MOST_PLACING_VERSIONS`.
     Exhausted,
     /// No placement has this id.
     Absent,
+    /// A write of this row's text failed.
+    Keep {
+        /// How many bytes of the text were written.
+        written: usize,
+    },
 }
 
 impl fmt::Display for ReleaseRefusal {
@@ -73,8 +105,10 @@ impl fmt::Display for ReleaseRefusal {
 
     fn fmt<W: fmt::Write>(&self, f: &mut fmt::Formatter<W>) -> fmt::Result {
         match self {
+            ReleaseRefusal::Stopped => f.write_str("stopped"),
             ReleaseRefusal::Exhausted => f.write_str("exhausted"),
             ReleaseRefusal::Absent => f.write_str("absent"),
+            ReleaseRefusal::Keep { written } => write!(f, "keep {written}"),
         }
     }
 }

@@ -1,6 +1,6 @@
 //! Makes the text of an accepted row, which goes to the writer `keep`.
 
-ghost use Rattle.std.specs.Prelude.{◌≡◌, ◌==◌, ◌++◌, [], if◌then◌else◌, IfOk};
+ghost use Rattle.std.specs.Prelude.{◌≡◌, ◌++◌, IfOk};
 ghost use Rattle.csv.specs.Records.{fields_of};
 ghost use Rattle.csv.specs.Writing.{default_writer, row_text, writer_under, writer_pending};
 
@@ -27,15 +27,4 @@ fn written(rows: Writer<Vec<u8>>) -> Result<Vec<u8>, AllocError>
         Ok(text) => Ok(text),
         Err(_refused) => Err(AllocError),
     }
-}
-
-/// Returns the row's text if the row changed the book's version, and otherwise the empty text.
-/// `before` and `after` are the versions before and after the row.
-pub(crate) fn text_if_new(mut text: Vec<u8>, before: u32, after: u32) -> Vec<u8>
-    ensures { result.items ≡ (if after == before then [] else text.items) }
-{
-    if after == before {
-        text.clear();
-    }
-    text
 }

@@ -7,7 +7,6 @@ ghost use Rattle.cspf_pair.specs.Potentials.{AreOfKind};
 ghost use Rattle.cspf_pair.specs.Answers.{IsBestPair, IsBestPairAnswer, pair_answer_of};
 ghost use Rattle.cspf_disjoint.specs.Potentials.{potentials_of};
 
-use crate::found::{Found, Verdict};
 use crate::judging::{each_has, each_passes, has_no_way, is_least};
 use crate::order::compare_routes;
 use crate::potentials::{PotentialLists, lists_of_kind};
@@ -17,6 +16,7 @@ use cspf_addr::Addr;
 use cspf_db::Table;
 use cspf_model::Route;
 use cspf_pair::{Kind, PairOutcome, PairRequest};
+use cspf_pair_search::{Found, Verdict};
 use std::alloc::{AllocError, Global};
 use std::cmp::Ordering;
 

@@ -1,26 +1,20 @@
 //! Finds two ways of the least total size that share no circuit, or no router either. If there are
 //! none, it finds the reason.
 //!
-//! The search isn't trusted (`finding`, `search`, `ways_found`). It returns an answer and a potential
-//! for each router. The check passes the answer only if the potentials prove it by the laws of
-//! `cspf_pair` (`answering`, `judging`, `excess`, `sharing`, `ways`). So the contract of `best_pair`
-//! doesn't depend on the search.
+//! The search, `cspf_pair_search`, isn't trusted. It returns an answer and a potential for each router.
+//! The check passes the answer only if the potentials prove it by the laws of `cspf_pair`. So the
+//! contract of `best_pair` doesn't depend on the search.
 #![tactic(auto)]
 
 mod answering;
 mod error;
 mod excess;
-mod finding;
-mod found;
 mod judging;
-mod lists;
 mod order;
 mod pair;
 mod potentials;
-mod search;
 mod sharing;
 mod ways;
-mod ways_found;
 mod weights;
 
 pub use error::PairError;

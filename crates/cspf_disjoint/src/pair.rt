@@ -3,9 +3,9 @@ ghost use Rattle.cspf_pair.specs.Answers.{IsBestPairAnswer, pair_answer_of};
 
 use crate::answering::checked;
 use crate::error::PairError;
-use crate::finding::find;
 use cspf_db::Table;
 use cspf_pair::{PairOutcome, PairRequest};
+use cspf_pair_search::find;
 use std::alloc::Global;
 
 /// The best answer to a request for a pair in the table's database. A pair that is returned has the

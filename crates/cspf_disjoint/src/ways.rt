@@ -8,11 +8,12 @@ ghost use Rattle.cspf_model.specs.RouteLinks.{AreLinked};
 ghost use Rattle.cspf_model.specs.Walks.{end_of};
 ghost use Rattle.cspf_pair.specs.Pairs.{IsWay};
 
-use crate::weights::{COST_WEIGHT, weight_along};
+use crate::weights::weight_along;
 use cspf_addr::Addr;
 use cspf_db::Table;
 use cspf_graph::admissible;
 use cspf_model::{Link, MOST_ROUTE_LINKS, Request, Route, worked_marks};
+use cspf_pair::COST_WEIGHT;
 use std::alloc::{AllocError, Global};
 
 /// The least cost that a route doesn't have: 2^45.

@@ -5,10 +5,7 @@ ghost use Rattle.cspf_pair.specs.Potentials.{by_size, weight_of};
 
 use cspf_addr::Addr;
 use cspf_model::Link;
-
-/// The weight of 1 unit of cost. Each link adds 1 to a weight, so the number of links decides
-/// between ways of equal cost.
-pub(crate) const COST_WEIGHT: u64 = 32_768;
+use cspf_pair::COST_WEIGHT;
 
 /// Which links and routers have a weight.
 #[derive(Clone, Copy, Debug)]

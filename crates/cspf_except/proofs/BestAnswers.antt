@@ -1,32 +1,23 @@
 -- The best answer to a request with exclusions, from the best answer in the database without the
 -- excluded links.
-use Rattle.std.proofs.Common.{◌≡◌, List, sym, subst}
+use Rattle.std.proofs.Common.{List}
 use Rattle.cspf_model.specs.declared.link.Link.{Link}
-use Rattle.cspf_model.specs.declared.batch.Change.{Change}
 use Rattle.cspf_model.specs.declared.request.Request.{Request}
 use Rattle.cspf_model.specs.Database.{Database}
-use Rattle.cspf_model.specs.Changes.{after_changes}
 use Rattle.cspf_model.specs.Best.{Answer, unknown_from, unknown_to, no_route, route, HasEnds, IsBestAnswer}
-use Rattle.cspf_except.specs.declared.exclusion.Exclusion.{Exclusion}
-use Rattle.cspf_except.specs.Exclusions.{IsWithout}
+use Rattle.cspf_exclusions.specs.declared.exclusion.Exclusion.{Exclusion}
+use Rattle.cspf_exclusions.specs.Exclusions.{IsWithout}
 use Rattle.cspf_except.specs.BestExcept.{IsBestExcept}
-use Rattle.cspf_except.specs.Removals.{AreRemovals, IsBestUnlessUnknown}
+use Rattle.cspf_except.specs.UnknownEnds.{IsBestUnlessUnknown}
 use Rattle.cspf_except.proofs.EndsOfRoutes.{no_route_from, no_route_to}
-use Rattle.cspf_except.proofs.WithoutLinks.{without_removed}
 
 -- If no end is known to be missing, an answer without the excluded links is the answer.
-pub best_there : (d e : Database) (q : Request) (parts : List Exclusion) (a : Answer) → HasEnds d q → IsWithout d parts e → IsBestUnlessUnknown e q a
+pub best_left : (d e : Database) (q : Request) (parts : List Exclusion) (a : Answer) → HasEnds d q → IsWithout d parts e → IsBestUnlessUnknown e q a
     → IsBestExcept d q parts a
-best_there d e q parts unknown_from ends without is = absurd is
-best_there d e q parts unknown_to ends without is = absurd is
-best_there d e q parts no_route ends without is = (ends, (e, without, is))
-best_there d e q parts (route walk) ends without is = (ends, (e, without, is))
-
--- The same, if the database without the excluded links is made by removing them.
-pub best_left : (d e : Database) (q : Request) (parts : List Exclusion) (cs : List Change) (a : Answer) → HasEnds d q → AreRemovals d parts cs → e ≡ after_changes d cs → IsBestUnlessUnknown e q a → IsBestExcept d q parts a
-best_left d e q parts cs a ends removals left is =
-    best_there d e q parts a ends
-    (subst (IsWithout d parts) (sym left) (without_removed d parts cs removals)) is
+best_left d e q parts unknown_from ends without is = absurd is
+best_left d e q parts unknown_to ends without is = absurd is
+best_left d e q parts no_route ends without is = (ends, (e, without, is))
+best_left d e q parts (route walk) ends without is = (ends, (e, without, is))
 
 -- The best route or no route, from the best answer.
 pub route_of : (d : Database) (q : Request) (walk : List Link) → IsBestAnswer d q (route walk) → IsBestUnlessUnknown d q (route walk)

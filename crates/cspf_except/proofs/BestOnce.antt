@@ -14,10 +14,10 @@ use Rattle.cspf_model.specs.Routes.{IsRoute}
 use Rattle.cspf_model.specs.Best.{unknown_from, unknown_to, no_route, route, IsBestRoute}
 use Rattle.cspf_model.proofs.Routes.WalkOrder.{one_best}
 use Rattle.cspf_model.proofs.Routes.RoutesWithoutHops.{routes_without_hops}
-use Rattle.cspf_except.specs.declared.exclusion.Exclusion.{Exclusion}
-use Rattle.cspf_except.specs.Exclusions.{IsExcluded}
+use Rattle.cspf_exclusions.specs.declared.exclusion.Exclusion.{Exclusion}
+use Rattle.cspf_exclusions.specs.Exclusions.{IsExcluded}
 use Rattle.cspf_except.specs.ExceptLaws.{OneBestExcept, MoreCostNoLess}
-use Rattle.cspf_except.proofs.WithoutLinks.{one_without, walks_without}
+use Rattle.cspf_exclusions.proofs.WithoutLinks.{one_without, walks_without}
 
 pub one_best_except : OneBestExcept
 one_best_except d q parts unknown_from unknown_from is also = refl

@@ -1,8 +1,4 @@
--- The lemmas on excluded links.
-pub mod ListedItems
-pub mod ChangesInParts
-pub mod Removed
-pub mod WithoutLinks
+-- The lemmas on the best answer to a request with exclusions.
 pub mod EndsOfRoutes
 pub mod BestAnswers
 pub mod BestOnce

@@ -5,8 +5,8 @@ use Rattle.cspf_model.specs.declared.request.Request.{Request}
 use Rattle.cspf_model.specs.Database.{Database, IsRouterOf}
 use Rattle.cspf_model.specs.Routes.{IsRoute}
 use Rattle.cspf_model.specs.Best.{Answer, unknown_from, unknown_to, no_route, route, HasEnds, IsBestRoute}
-use Rattle.cspf_except.specs.declared.exclusion.Exclusion.{Exclusion}
-use Rattle.cspf_except.specs.Exclusions.{IsWithout}
+use Rattle.cspf_exclusions.specs.declared.exclusion.Exclusion.{Exclusion}
+use Rattle.cspf_exclusions.specs.Exclusions.{IsWithout}
 
 -- The walk is the best route of the request in the database `d` without the excluded links.
 abbrev pub IsBestRouteExcept : Database → Request → List Exclusion → List Link → Type 0

@@ -1,5 +1,4 @@
--- The definitions of excluded links and of the best answer that avoids them. `Removals` is private.
-pub mod Exclusions
+-- The definitions of the best answer that avoids excluded links. `UnknownEnds` is private.
 pub mod BestExcept
 pub mod ExceptLaws
-pub mod Removals
+pub mod UnknownEnds

@@ -6,12 +6,10 @@ ghost use Rattle.cspf_model.specs.Database.{Database, IsRouterOf};
 ghost use Rattle.cspf_model.specs.declared.request.Request.{Request as Asked};
 ghost use Rattle.cspf_model.specs.Outcome.{answer_of};
 ghost use Rattle.cspf_except.specs.BestExcept.{IsBestExcept};
-ghost use Rattle.cspf_except.specs.Removals.{IsBestUnlessUnknown};
+ghost use Rattle.cspf_except.specs.UnknownEnds.{IsBestUnlessUnknown};
 
-use crate::exclusion::Exclusions;
-use crate::listing::removals;
-use crate::removal::change;
 use cspf_db::Table;
+use cspf_exclusions::{Exclusions, without};
 use cspf_model::{Outcome, Request};
 use cspf_trees::best_without_tree;
 use std::alloc::{AllocError, Global};
@@ -80,8 +78,7 @@ fn answer_between_known(
     ensures { IfOk result (λ outcome.
         IsBestExcept table request.now exclusions.now (answer_of outcome)) }
 {
-    let removals = removals(alloc, &table, exclusions.as_slice())?;
-    let left = change(alloc, table, &removals)?;
+    let left = without(alloc, table, exclusions)?;
     route_or_none(alloc, &left, request)
 }
 

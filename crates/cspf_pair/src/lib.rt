@@ -11,6 +11,7 @@ mod kind;
 mod laws;
 mod outcome;
 mod request;
+mod weight;
 
 pub use kind::Kind;
 pub use laws::{
@@ -19,3 +20,4 @@ pub use laws::{
 };
 pub use outcome::PairOutcome;
 pub use request::PairRequest;
+pub use weight::COST_WEIGHT;

@@ -1,7 +1,7 @@
 //! The publisher: it checks each batch, writes the batch's text to the journal, and then publishes
 //! the batch to the askers (which answer requests).
 
-ghost use Rattle.std.specs.Prelude.{◌≡◌, ◌↔◌, ◌*◌, ◌≤◌, ◌⊎◌, ◌++◌, [], ◌∷◌, true, false, length, take, All, IfOk, OnOk, IfErr, OnErr, vec_len, sum_by};
+ghost use Rattle.std.specs.Prelude.{◌≡◌, ◌≢◌, ◌↔◌, ◌*◌, ◌≤◌, ◌⊎◌, ◌++◌, [], ◌∷◌, ℕ, true, false, length, take, All, IfOk, OnOk, IfErr, OnErr, vec_len, sum_by};
 ghost use Rattle.std.specs.Io.KnownBytes.{Appends};
 ghost use Rattle.cspf_publish.specs.Answers.{IsAnswerAfter};
 ghost use Rattle.cspf_publish.specs.ApplyErrors.{IsApplyError, IsNextBatch};
@@ -12,11 +12,11 @@ ghost use Rattle.cspf_journal.specs.JournalSteps.{batches_of, count_of};
 ghost use Rattle.cspf_journal.specs.KnownBatches.{known_with};
 ghost use Rattle.cspf_trees.specs.declared.limits.TheConstants.{TREE_BYTES, TREE_MEGABYTES};
 
+use crate::prepared::PreparedBatch;
 use crate::replicas::Replicas;
 use crate::{Answer, ApplyError, Asker, MOST_ASKERS, OpenError, Told};
 use cspf_journal::{JournalWriter, Known, NewJournal, NotRecorded, SeenSteps};
 use cspf_model::{Batch, MOST_VERSIONS, Request};
-use cspf_rows::batch_text;
 use cspf_trees::{TREE_BYTES, TREE_MEGABYTES, trees_in};
 use std::alloc::{AllocError, Global};
 use std::io::Write;
@@ -169,25 +169,14 @@ impl<W: Write> Publisher<W> {
         self.replicas.steps()
     }
 
-    /// Publishes a batch and returns the new version. The whole text of the batch is first written
-    /// to the journal. After the batch is published, the count of published batches is raised to
-    /// the new version, for askers (which answer requests) to read. The call may wait for askers
-    /// that are inside a call. Errors are checked in the order of `ApplyError`.
-    pub fn apply<R: Wait>(
-        &mut self,
-        rt: &R,
-        alloc: Global,
-        batch: &Batch,
-    ) -> Result<u32, ApplyError>
-        ensures source { self.new.source ≡ self.old.source }
-        ensures next { OnOk result (IsNextBatch self.old batch.now) }
-        ensures published { OnOk result (self.new.batches ≡ self.old.batches ++ batch.now ∷ []) }
-        ensures version { IfOk result (λ version. version ≡ length self.new.batches) }
-        ensures going { OnOk result (self.new.stopped ≡ false) }
-        ensures recorded { OnOk result (Appends
-            (W.contents self.old.journal) (W.contents self.new.journal) (batch_text batch.now)) }
-        ensures same { OnErr result (self.new.batches ≡ self.old.batches) }
-        ensures why { IfErr result (λ e. IsApplyError W.contents self.old self.new batch.now e) }
+    /// Does everything for the publishing of a batch that may need memory or refuse the batch. The
+    /// publisher is unchanged. Errors are checked in the order of `ApplyError`, and `Journal` is none
+    /// of them.
+    pub fn prepare(&self, alloc: Global, batch: &Batch) -> Result<PreparedBatch, ApplyError>
+        ensures batch { IfOk result (λ prepared. prepared ≡ batch.now) }
+        ensures next { OnOk result (IsNextBatch self.now batch.now) }
+        ensures why { IfErr result (λ e. IsApplyError W.contents self.now self.now batch.now e) }
+        ensures journal { IfErr result (λ e. (written : ℕ) → e ≢ ApplyError.Journal written) }
     {
         if self.journal.is_stopped() {
             return Err(ApplyError::Stopped);
@@ -204,18 +193,57 @@ impl<W: Write> Publisher<W> {
         if let Err(refusal) = self.replicas.check(batch) {
             return Err(ApplyError::Refused(refusal));
         }
-        let Ok(text) = batch_text(alloc, batch) else {
-            return Err(ApplyError::Memory);
-        };
-        let Ok(copy) = batch.copy(alloc) else {
-            return Err(ApplyError::Memory);
-        };
-        // Only the publisher adds batches to the journal's list, so the error `Lost` happens in no run.
-        match self.journal.record(batch, text.as_slice()) {
-            Ok(recorded) => Ok(self.replicas.publish(rt, copy, recorded)),
+        match PreparedBatch::new(alloc, batch) {
+            Ok(prepared) => Ok(prepared),
+            Err(_refused) => Err(ApplyError::Memory),
+        }
+    }
+
+    /// Publishes a batch and returns the new version. The batch was prepared in this state of the
+    /// publisher. The whole text of the batch is first written to the journal. After the batch is
+    /// published, the count of published batches is raised to the new version, for askers (which
+    /// answer requests) to read. The call may wait for askers that are inside a call. The error is
+    /// `Journal` if a write to the journal fails. Only the publisher adds batches to the journal's
+    /// list, so the error `Memory` happens in no run.
+    pub fn publish<R: Wait>(&mut self, rt: &R, prepared: PreparedBatch) -> Result<u32, ApplyError>
+        requires next { IsNextBatch self.old prepared }
+        ensures source { self.new.source ≡ self.old.source }
+        ensures published { OnOk result (self.new.batches ≡ self.old.batches ++ prepared ∷ []) }
+        ensures version { IfOk result (λ version. version ≡ length self.new.batches) }
+        ensures going { OnOk result (self.new.stopped ≡ false) }
+        ensures recorded { OnOk result (Appends
+            (W.contents self.old.journal) (W.contents self.new.journal) (batch_text prepared)) }
+        ensures same { OnErr result (self.new.batches ≡ self.old.batches) }
+        ensures why { IfErr result (λ e. IsApplyError W.contents self.old self.new prepared e) }
+    {
+        let PreparedBatch { batch, text } = prepared;
+        match self.journal.record(&batch, text.as_slice()) {
+            Ok(recorded) => Ok(self.replicas.publish(rt, batch, recorded)),
             Err(NotRecorded::Writer { written }) => Err(ApplyError::Journal { written }),
             Err(NotRecorded::Lost) => Err(ApplyError::Memory),
         }
+    }
+
+    /// Publishes a batch and returns the new version, as `prepare` and `publish` do one after the
+    /// other. Errors are checked in the order of `ApplyError`.
+    pub fn apply<R: Wait>(
+        &mut self,
+        rt: &R,
+        alloc: Global,
+        batch: &Batch,
+    ) -> Result<u32, ApplyError>
+        ensures source { self.new.source ≡ self.old.source }
+        ensures next { OnOk result (IsNextBatch self.old batch.now) }
+        ensures published { OnOk result (self.new.batches ≡ self.old.batches ++ batch.now ∷ []) }
+        ensures version { IfOk result (λ version. version ≡ length self.new.batches) }
+        ensures going { OnOk result (self.new.stopped ≡ false) }
+        ensures recorded { OnOk result (Appends
+            (W.contents self.old.journal) (W.contents self.new.journal) (batch_text batch.now)) }
+        ensures same { OnErr result (self.new.batches ≡ self.old.batches) }
+        ensures why { IfErr result (λ e. IsApplyError W.contents self.old self.new batch.now e) }
+    {
+        let prepared = self.prepare(alloc, batch)?;
+        self.publish(rt, prepared)
     }
 
     /// Ends the publisher, and returns the journal's writer as it was after the last call. This

@@ -3,7 +3,7 @@ use Rattle.std.proofs.Common.{◌≡◌, ℕ, ◌+◌, ◌<◌, List, [], ◌∷
 use Rattle.std.specs.Option.{option_and_then}
 use Rattle.std.proofs.lemmas.List.{drop_more, drop_all}
 use Rattle.cspf_addr.specs.ResultSteps.{◌>>=◌}
-use Rattle.cspf_except.specs.declared.exclusion.Exclusion.{Exclusion}
+use Rattle.cspf_exclusions.specs.declared.exclusion.Exclusion.{Exclusion}
 use Rattle.cspf_questions.specs.ExclusionText.{exclusion_of, kind_of}
 use Rattle.cspf_questions.specs.QuestionRows.{exclusions_from}
 use Rattle.cspf_questions.specs.declared.error.ExceptFault.{ExceptFault}

@@ -3,9 +3,9 @@ use Rattle.std.specs.Prelude.{ℕ, ◌-◌, ◌==◌, if◌then◌else◌, List,
 use Rattle.std.specs.Result.{result_ok}
 use Rattle.cspf_addr.specs.OptionSteps.{◌>>=◌}
 use Rattle.cspf_addr.specs.Prefixes.{prefix_of}
-use Rattle.cspf_except.specs.declared.exclusion.Exclusion.{Exclusion}
-use Rattle.cspf_except.specs.declared.exclusion.ExclusionKind.{ExclusionKind}
-use Rattle.cspf_except.specs.declared.exclusion.ExclusionKind.TheVariants as exclusion_kind
+use Rattle.cspf_exclusions.specs.declared.exclusion.Exclusion.{Exclusion}
+use Rattle.cspf_exclusions.specs.declared.exclusion.ExclusionKind.{ExclusionKind}
+use Rattle.cspf_exclusions.specs.declared.exclusion.ExclusionKind.TheVariants as exclusion_kind
 
 -- the kind of exclusion that a letter names: `i` for interfaces, and `r` for routers
 unfoldable pub kind_of : ℕ → Option ExclusionKind

@@ -11,8 +11,8 @@ use Rattle.cspf_rows.specs.declared.row_error.RowError.{RowError}
 use Rattle.cspf_rows.specs.declared.row_error.RowError.TheVariants as row_error
 use Rattle.cspf_rows.specs.FieldValues.{field}
 use Rattle.cspf_rows.specs.Rows.{row_of, ask_row_of, is_kind}
-use Rattle.cspf_except.specs.declared.exclusion.Exclusion.{Exclusion}
-use Rattle.cspf_except.specs.declared.exclusion.TheConstants.{MOST_EXCLUSIONS}
+use Rattle.cspf_exclusions.specs.declared.exclusion.Exclusion.{Exclusion}
+use Rattle.cspf_exclusions.specs.declared.exclusion.TheConstants.{MOST_EXCLUSIONS}
 use Rattle.cspf_pair.specs.declared.kind.Kind.{Kind}
 use Rattle.cspf_pair.specs.declared.kind.Kind.TheVariants as kind
 use Rattle.cspf_questions.specs.ExclusionText.{exclusion_of}

@@ -6,11 +6,11 @@ ghost use Rattle.cspf_rows.specs.FieldValues.{field};
 ghost use Rattle.cspf_addr.specs.HopLists.{parts_of};
 ghost use Rattle.cspf_questions.specs.ExclusionText.{exclusion_of, kind_of};
 ghost use Rattle.cspf_questions.specs.QuestionRows.{exclusions_from, exclusions_of};
-ghost use Rattle.cspf_except.specs.declared.exclusion.TheConstants.{MOST_EXCLUSIONS};
+ghost use Rattle.cspf_exclusions.specs.declared.exclusion.TheConstants.{MOST_EXCLUSIONS};
 
 use crate::error::ExceptFault;
 use cspf_addr::Prefix;
-use cspf_except::{Exclusion, ExclusionKind, Exclusions, MOST_EXCLUSIONS};
+use cspf_exclusions::{Exclusion, ExclusionKind, Exclusions, MOST_EXCLUSIONS};
 use csv::ByteRecord;
 use std::alloc::{AllocError, Global};
 

@@ -152,6 +152,7 @@ module _ {J : Type 0} (contents : J → Option (List ℕ)) (first : PublisherSta
     wrong p (refusal.Unfit why) same (still, is) = absurd is
     wrong p refusal.Memory same (still, is) = absurd is
     wrong p (refusal.Journal written) same (still, is) = absurd is
+    wrong p (refusal.Keep written) same (still, is) = absurd is
 
     whole : (p : CountedState J) → p.publisher ≡ r.sink.publisher → p.steps ≡ r.sink.steps → p ≡ r.sink
     whole p same steps = λ i. record { publisher = same i; steps = steps i }

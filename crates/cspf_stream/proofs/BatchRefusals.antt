@@ -34,9 +34,11 @@ module _ (version next : ℕ) (changes : List Change) (d : Database) (number cou
   refusal_once one refusal.Stopped other a b = absurd a
   refusal_once one refusal.Memory other a b = absurd a
   refusal_once one (refusal.Journal written) other a b = absurd a
+  refusal_once one (refusal.Keep written) other a b = absurd a
   refusal_once one why refusal.Stopped a b = absurd b
   refusal_once one why refusal.Memory a b = absurd b
   refusal_once one why (refusal.Journal written) a b = absurd b
+  refusal_once one why (refusal.Keep written) a b = absurd b
   refusal_once one refusal.Exhausted refusal.Exhausted a b = refl
   refusal_once one refusal.Exhausted other a b = absurd (omega (arith, a, b.0))
   refusal_once one why refusal.Exhausted a b = absurd (omega (arith, a.0, b))

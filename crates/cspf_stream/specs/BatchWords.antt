@@ -24,3 +24,4 @@ batch_words (refusal.WrongCount counted) = codes "counted " ++ decimal counted
 batch_words (refusal.Unfit why) = unfit_words why
 batch_words refusal.Memory = codes "memory"
 batch_words (refusal.Journal written) = codes "journal " ++ decimal written
+batch_words (refusal.Keep written) = codes "keep " ++ decimal written

@@ -29,8 +29,9 @@ IsWrongEnd version next number count changes (refusal.WrongCount counted) =
 IsWrongEnd version next number count changes other = ⊥
 
 -- Why the batch of an `end` row with this number and count is refused: the `end` row is wrong, or
--- its batch doesn't fit the database. The first reason that applies is given. `Stopped`, `Journal`
--- and `Memory` never apply, because a run has no journal and ends if memory is refused.
+-- its batch doesn't fit the database. The first reason that applies is given. `Stopped`, `Journal`,
+-- `Keep` and `Memory` never apply: here no text of a batch is written, and refused memory ends the
+-- run.
 abbrev pub IsBatchRefusal : ℕ → ℕ → List Change → Database → ℕ → ℕ → BatchRefusal → Type 0
 IsBatchRefusal version next changes d number count (refusal.Unfit why) =
     (version < MOST_VERSIONS) × (number ≡ next) × (count ≡ length changes) × IsRefusal d (record { number = number; changes = changes }) why

@@ -1,3 +1,5 @@
+//! Why a batch is refused, and the words of each reason.
+
 use cspf_model::Refusal;
 use std::error::Error;
 use std::fmt;
@@ -5,7 +7,7 @@ use std::fmt;
 /// Why a batch is refused.
 #[derive(Clone, Copy, Debug, PartialEq, Eq)]
 pub enum BatchRefusal {
-    /// The journal has failed, so no more batches are accepted.
+    /// A write of an earlier batch's text failed, so no more batches are accepted.
     Stopped,
     /// The current version is 1,000,000, the greatest version.
     Exhausted,
@@ -25,6 +27,11 @@ pub enum BatchRefusal {
     Memory,
     /// The journal failed while the batch was written.
     Journal {
+        /// How many bytes of the batch's text were written.
+        written: usize,
+    },
+    /// The writer that keeps the accepted rows failed while the batch was written.
+    Keep {
         /// How many bytes of the batch's text were written.
         written: usize,
     },
@@ -50,6 +57,7 @@ impl fmt::Display for BatchRefusal {
             BatchRefusal::Unfit(Refusal::TooManyMarks) => f.write_str("marks"),
             BatchRefusal::Memory => f.write_str("memory"),
             BatchRefusal::Journal { written } => write!(f, "journal {written}"),
+            BatchRefusal::Keep { written } => write!(f, "keep {written}"),
         }
     }
 }

@@ -11,6 +11,7 @@ mod objects;
 mod placing;
 mod prefixes;
 mod replies;
+mod restoring;
 mod taking;
 
 use std::alloc::AllocError;

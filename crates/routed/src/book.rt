@@ -1,11 +1,12 @@
 //! `routed book` places requests of standard input, and counts the bandwidth that their routes
 //! hold. Each line is written as soon as it is known.
 
-use crate::devices::{INPUT, OUTPUT, created, flushed, held_places};
+use crate::devices::{INPUT, NewFile, OUTPUT, created, flushed, held_places};
 use crate::noted::Noted;
-use crate::options::{Asked, Call, CommandOption, CommandText, KEEP};
+use crate::options::{Asked, Call, CommandOption, CommandText, EXPLAIN, KEEP};
+use crate::standard_error::say_at;
 use crate::stopped::{Ran, Stopped};
-use cspf_book_run::{BookError, run_book};
+use cspf_book_run::run_book;
 use std::io;
 use std::io::Write;
 
@@ -46,9 +47,10 @@ Lines of standard output, each as soon as it is known:
 With --keep the accepted rows go to a new file, each before its lines: of a base batch its rows with the
 end row, and each row that places a route or releases. A new run makes the same book of them, and goes on:
   cat FILE - | routed book --keep NEXT
-A file that is there already is left as it is. If a write to it fails, the row has no line and the run
-stops. The file may then end in a part of what is kept of that row. Before it is read, take out what
-follows its last whole line that begins with end, place or release.
+A file that is there already is left as it is. If a write to it fails after W bytes of a row, or of a
+batch, the row is refused by keep W, and each later end, place and release row by stopped; ask rows are
+answered on. The W bytes may stay at the end of the file. Before it is read, take out what follows its
+last whole line that begins with end, place or release.
 
 Rows may be of any length that fits in memory. Standard output must be in blocking mode. If its reader
 exits early (routed book | head -1), the status is 3. A file that reaches the limit of its size
@@ -58,8 +60,10 @@ Status:
   0  everything was accepted
   1  the command line was refused
   2  a row, a batch, a placing or a release was refused, or there were more than 1,000,000 rows
-  3  out of memory, a device failed, or the file of --keep exists already; the last line of standard
-     error is routed: stopped, and with --explain the line before it says why";
+  3  out of memory, standard input or output failed, or the file of --keep exists already or can't be
+     made; the last line of standard error is routed: stopped, and with --explain the line before it
+     says why
+With --explain a line says which write to the file of --keep failed.";
 
 /// Answers the rows of standard input on standard output. With `--keep` the accepted rows are
 /// written to a new file. The lines that were written before a fault remain.
@@ -70,9 +74,19 @@ pub(crate) fn answer(call: &Call<'_, '_>) -> Ran {
         let _held = held_places(call.rt);
         let mut keep = created(call, KEEP)?;
         let ran = answer_rows(call.rt, &mut keep);
+        explain_keep(call, &keep);
         flushed(&mut keep, ran)
     } else {
         answer_rows(call.rt, &mut Noted::new(KEEP, io::sink()))
+    }
+}
+
+/// With `--explain`, writes which call on the file of accepted rows failed, if one failed.
+fn explain_keep(call: &Call<'_, '_>, keep: &NewFile) {
+    if call.has(EXPLAIN) {
+        if let Some(fault) = keep.fault() {
+            say_at(call.rt, KEEP, call.value(KEEP), &fault);
+        }
     }
 }
 
@@ -80,10 +94,9 @@ pub(crate) fn answer(call: &Call<'_, '_>) -> Ran {
 fn answer_rows<K: Write>(rt: &HostRuntime, keep: &mut Noted<K>) -> Ran {
     let mut reader = Noted::new(INPUT, rt.reader());
     let mut out = Noted::new(OUTPUT, io::writer(rt));
-    let (ran, keep) = run_book(rt.alloc(), &mut reader, &mut out, keep);
+    let (ran, _keep) = run_book(rt.alloc(), &mut reader, &mut out, keep);
     match ran {
         Ok(summary) => flushed(&mut out, Ok(summary.status())),
-        Err(BookError::Run(error)) => Err(Stopped::Solve(error).by(reader.fault(), out.fault())),
-        Err(error) => Err(Stopped::Book(error).by(None, keep.fault())),
+        Err(error) => Err(Stopped::Solve(error).by(reader.fault(), out.fault())),
     }
 }

@@ -39,7 +39,6 @@ fn explain_stop(call: &Call<'_, '_>, why: Stopped) {
         },
         Stopped::Solve(error) => say(rt, &error),
         Stopped::Undecided => say(rt, &QuestionRunError::Undecided),
-        Stopped::Book(error) => say(rt, &error),
         Stopped::Stream(error) => say(rt, &error),
         Stopped::Run(error) => say(rt, &error),
         Stopped::Serve(error) => say(rt, &error),

@@ -1,7 +1,6 @@
 //! Why the program stops. `--explain` writes the reason before the last line of standard error.
 
 use crate::noted::Fault;
-use cspf_book_run::BookError;
 use cspf_questions::QuestionRunError;
 use cspf_serve::{RunError, ServedError, SolveError, StreamError};
 use std::alloc::AllocError;
@@ -14,12 +13,10 @@ pub enum Stopped {
     Memory,
     /// A call on a file or a stream failed.
     Device(Fault),
-    /// An error of `solve`, or an error of `book` that `solve` also has.
+    /// An error of `solve` or `book`.
     Solve(SolveError),
     /// The answer to a request for a pair isn't proved by what the search found.
     Undecided,
-    /// Another error of `book`.
-    Book(BookError),
     /// An error of `serve` in reading the updates, or in writing the lines that answer them.
     Stream(StreamError),
     /// An error of `batch`, `live`, `snapshot` or `audit`.
@@ -51,7 +48,6 @@ impl Stopped {
             Stopped::Run(RunError::Device) => read.or(written),
             Stopped::Solve(SolveError::Read) | Stopped::Stream(StreamError::Read) => read,
             Stopped::Solve(SolveError::Write { .. })
-            | Stopped::Book(BookError::Keep { .. })
             | Stopped::Stream(StreamError::Write | StreamError::Flush) => written,
             _ => None,
         };

@@ -5,8 +5,10 @@
 
 use super::assert_case;
 use super::networks::Edit::Put;
-use super::networks::{ONE, THREE, batch, book, is_absorbed, is_released, left, placed};
-use cspf_book::{Book, PlaceError};
+use super::networks::{
+    ONE, THREE, batch, book, is_absorbed, is_released, left, offered, placed, placement, restored,
+};
+use cspf_book::{Book, PlaceError, RestoreError};
 use cspf_model::Batch;
 use std::alloc::Global;
 
@@ -137,4 +139,69 @@ fn releases_while_memory_is_refused(rt: HostRuntime) {
         None => true,
     };
     assert_case(&rt, "released without memory", 0, is);
+}
+
+/// Whether a placement is restored in the first or second attempt. If memory is refused in the first
+/// attempt, the book has to be as it was. The result is also true if memory is still refused before
+/// the second attempt.
+fn is_restored_at_last(alloc: Global, book: &mut Book) -> bool {
+    let (first, second) = match (
+        placement(alloc, 1, 600, 5, &[THREE]),
+        placement(alloc, 1, 600, 5, &[THREE]),
+    ) {
+        (Some(first), Some(second)) => (first, second),
+        _ => return true,
+    };
+    match restored(alloc, book, first) {
+        Some(Ok(())) => return is_taken(book),
+        Some(Err(RestoreError::Memory)) => (),
+        _ => return false,
+    }
+    let is_same = book.version() == 1 && left(book, ONE, THREE) == [1000; 8];
+    let is_none = book.placement(1).is_none() && book.placements().is_empty();
+    is_same
+        && is_none
+        && (!has_memory(alloc) || (restored(alloc, book, second) == Some(Ok(())) && is_taken(book)))
+}
+
+/// If memory is refused for the book itself, nothing is tested.
+#[test]
+fn restores_while_memory_is_refused(rt: HostRuntime) {
+    let alloc = rt.alloc();
+    let is = match book(alloc) {
+        Some(mut book) => is_restored_at_last(alloc, &mut book),
+        None => true,
+    };
+    assert_case(&rt, "restored without memory", 0, is);
+}
+
+/// Whether a request for more bandwidth with the id of the placement is offered in the first or
+/// second attempt, and the book stays as it is. The result is also true if the request isn't placed,
+/// or memory is still refused before the second attempt.
+fn is_offered_at_last(alloc: Global, book: &mut Book) -> bool {
+    if placed(alloc, book, 1, 600, b"", 5) != Some(Ok(1)) {
+        return true;
+    }
+    let first = offered(alloc, book, 1, 900, b"");
+    let is_same = book.version() == 2 && is_taken(book);
+    match first {
+        Some(Ok(links)) => is_same && links == 1,
+        Some(Err(PlaceError::Memory)) => {
+            is_same
+                && (!has_memory(alloc) || offered(alloc, book, 1, 900, b"") == Some(Ok(1)))
+                && is_taken(book)
+        }
+        _ => false,
+    }
+}
+
+/// If memory is refused for the book itself, nothing is tested.
+#[test]
+fn offers_while_memory_is_refused(rt: HostRuntime) {
+    let alloc = rt.alloc();
+    let is = match book(alloc) {
+        Some(mut book) => is_offered_at_last(alloc, &mut book),
+        None => true,
+    };
+    assert_case(&rt, "offered without memory", 0, is);
 }

@@ -1,7 +1,10 @@
 //! Helpers for the tests: a triangle of routers, and batches and requests for it.
 
+ghost use Rattle.std.specs.Prelude.{◌↔◌, IsTrue};
+ghost use Rattle.cspf_book.specs.PlacedRoutes.{ConnectsItsEnds};
+
 use cspf_addr::{Addr, Mask, parse_hops};
-use cspf_book::{Book, PlaceError, TakesAll, VersionError};
+use cspf_book::{Book, Path, PlaceError, Placement, RestoreError, TakesAll, VersionError};
 use cspf_model::{Batch, Change, Link, MOST_VERSIONS, Outcome, Request};
 use std::alloc::Global;
 
@@ -177,5 +180,76 @@ pub(super) fn left(book: &Book, from: u32, to: u32) -> [u64; 8] {
     match book.effective().find(Addr::new(from), interface(from, to)) {
         Some(link) => link.free,
         None => [0; 8],
+    }
+}
+
+/// A placement of a request that `request` makes. Its route goes from 1.1.1.1 through these routers.
+pub(super) fn placement(
+    alloc: Global,
+    id: u64,
+    bandwidth: u64,
+    hold: u8,
+    routers: &[u32],
+) -> Option<Placement> {
+    if hold > 7 {
+        return None;
+    }
+    let mut steps = Vec::new(alloc);
+    let mut from = ONE;
+    for to in routers {
+        steps.push((interface(from, *to), Addr::new(*to))).ok()?;
+        from = *to;
+    }
+    let route = Path::along(alloc, Addr::new(ONE), steps.as_slice()).ok()?;
+    let request = request(id, bandwidth, b"")?;
+    Some(Placement {
+        request,
+        hold,
+        route,
+    })
+}
+
+/// Whether the placement's route leads to the tail-end of its request.
+fn connects_its_ends(placement: &Placement) -> bool
+    ensures { IsTrue result ↔ ConnectsItsEnds placement.now }
+{
+    let (from, to) = (placement.request.from, placement.request.to);
+    placement.route.leads(from, to)
+}
+
+/// Restores the placement. Returns why it isn't restored. `None` if its route doesn't lead to the
+/// tail-end of its request.
+pub(super) fn restored(
+    alloc: Global,
+    book: &mut Book,
+    placement: Placement,
+) -> Option<Result<(), RestoreError>> {
+    if !connects_its_ends(&placement) || book.version() >= MOST_VERSIONS {
+        return None;
+    }
+    match book.restore(&mut TakesAll, &(), alloc, placement) {
+        Ok(()) => Some(Ok(())),
+        Err(VersionError::Book(why)) => Some(Err(why)),
+        Err(VersionError::Taker(())) => None,
+    }
+}
+
+/// The answer to a request that `request` makes, if it were placed: the number of links in its
+/// route, 0 if there is no route, or why it wouldn't be placed.
+pub(super) fn offered(
+    alloc: Global,
+    book: &mut Book,
+    id: u64,
+    bandwidth: u64,
+    hops: &[u8],
+) -> Option<Result<usize, PlaceError>> {
+    let request = request(id, bandwidth, hops)?;
+    if book.version() >= MOST_VERSIONS {
+        return None;
+    }
+    match book.offer(alloc, &request, 0) {
+        Ok(Outcome::Route(route)) => Some(Ok(route.links().len())),
+        Ok(_) => Some(Ok(0)),
+        Err(why) => Some(Err(why)),
     }
 }

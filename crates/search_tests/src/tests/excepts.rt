@@ -3,8 +3,9 @@
 use super::Wanted::{self, NoRoute, Route, UnknownFrom, UnknownTo};
 use super::{BY_THREE, BY_TWO, FOUR, ONE, SQUARE, THREE, TWO, is_wanted, mark, request, table};
 use cspf_addr::{Addr, Prefix};
-use cspf_except::ExclusionKind::{self, Interface, Router};
-use cspf_except::{Exclusion, Exclusions, best_except};
+use cspf_except::best_except;
+use cspf_exclusions::ExclusionKind::{self, Interface, Router};
+use cspf_exclusions::{Exclusion, Exclusions};
 use std::alloc::Global;
 use std::test::Fail;
 

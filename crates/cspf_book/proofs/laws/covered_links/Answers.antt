@@ -1,4 +1,5 @@
 use Rattle.cspf_book.proofs.Covered.{placing_covered, releasing_covered}
+use Rattle.cspf_book.proofs.MadeOver.{restoring_covered}
 use Rattle.cspf_book.proofs.OverLists.{absorbing_covered}
 use Rattle.cspf_book.proofs.laws.covered_links.Goals as goal
 
@@ -10,3 +11,6 @@ returns-clause-releasing c = releasing_covered
 
 pub returns-clause-absorbing : goal.returns-clause-absorbing
 returns-clause-absorbing c = absorbing_covered
+
+pub returns-clause-restoring : goal.returns-clause-restoring
+returns-clause-restoring c = restoring_covered

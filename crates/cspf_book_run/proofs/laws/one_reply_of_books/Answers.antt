@@ -1,4 +1,4 @@
-use Rattle.cspf_book_run.proofs.BookOneReply.{book_run_once}
+use Rattle.cspf_book_run.proofs.KeptOnce.{book_run_once}
 use Rattle.cspf_book_run.proofs.laws.one_reply_of_books.Goals as goal
 
 pub returns : goal.returns

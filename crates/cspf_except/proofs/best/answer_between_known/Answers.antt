@@ -6,6 +6,5 @@ use Rattle.cspf_except.proofs.best.answer_between_known.Goals as goal
 pub returns : goal.returns
 returns c =
     IfOk-weaker c.route_or_none.result _ _
-    (λ outcome is. best_left c.args.table c.in_ok-left.left c.args.request.now c.args.exclusions.now c.in_ok-removals.removals.items (answer_of outcome)
-    c.requires (rw c.as_slice.ensures.value at c.in_ok-removals.ensures) (rw c.deref.ensures.value at c.in_ok-left.ensures) is)
+    (λ outcome is. best_left c.args.table c.in_ok-left.left c.args.request.now c.args.exclusions.now (answer_of outcome) c.requires c.in_ok-left.ensures is)
     c.route_or_none.ensures

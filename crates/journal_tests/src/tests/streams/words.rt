@@ -52,7 +52,8 @@ fn is_line_of(alloc: Global, place: u64, error: RowError, line: &[u8]) -> Result
 fn lines_of_streams(rt: HostRuntime) -> Result<(), AllocError> {
     let unfit = BatchRefusal::Unfit(Refusal::Absent { at: 3 });
     let cut = BatchRefusal::Journal { written: 40 };
-    let wanted: [(StreamLine, &[u8]); 5] = [
+    let unkept = BatchRefusal::Keep { written: 50 };
+    let wanted: [(StreamLine, &[u8]); 6] = [
         (StreamLine::Version { version: 7 }, b"version 7\n"),
         (
             StreamLine::RefusedBatch {
@@ -67,6 +68,13 @@ fn lines_of_streams(rt: HostRuntime) -> Result<(), AllocError> {
                 refusal: cut,
             },
             b"batch 9 refused: journal 40\n",
+        ),
+        (
+            StreamLine::RefusedBatch {
+                number: 10,
+                refusal: unkept,
+            },
+            b"batch 10 refused: keep 50\n",
         ),
         (StreamLine::Unended { count: 9 }, b"unended 9\n"),
         (StreamLine::TooManyRows, b"too many rows\n"),

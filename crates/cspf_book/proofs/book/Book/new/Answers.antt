@@ -5,7 +5,7 @@ use Rattle.cspf_book.specs.Effective.{effective}
 use Rattle.cspf_book.specs.BookState.{links_placed}
 use Rattle.cspf_book.specs.Kept.{IsCountOf}
 use Rattle.cspf_book.specs.ById.{AreIdsOf}
-use Rattle.cspf_book.specs.Inside.{HaveDistinctIds, HaveOwnRoutes}
+use Rattle.cspf_book.specs.PlacedRoutes.{HaveDistinctIds, HaveOwnRoutes, ConnectTheirEnds}
 use Rattle.cspf_book.proofs.Currents.{effective-no_links}
 use Rattle.cspf_book.proofs.book.Book.new.Goals as goal
 
@@ -24,5 +24,6 @@ invariant_of-result c =
       links = sym (ap links_placed c.new-7.ensures.items);
       few_links = omega arith;
       routes = subst HaveOwnRoutes (sym c.new-7.ensures.items) tt;
+      ends = subst ConnectTheirEnds (sym c.new-7.ensures.items) tt;
       one = rw (c.in_ok-push.ensures.items, c.new-changes.ensures.items) refl;
     }

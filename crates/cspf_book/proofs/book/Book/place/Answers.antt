@@ -9,7 +9,7 @@ use Rattle.cspf_book.specs.declared.placement.Placement.{Placement}
 use Rattle.cspf_book.specs.Placements.{others, counted}
 use Rattle.cspf_book.proofs.KeptSums.{count_more, small_with, counted-placed}
 use Rattle.cspf_book.specs.BookState.{links_placed}
-use Rattle.cspf_book.specs.Inside.{HaveDistinctIds, HaveOwnRoutes}
+use Rattle.cspf_book.specs.PlacedRoutes.{HaveDistinctIds, HaveOwnRoutes, ConnectTheirEnds}
 use Rattle.cspf_book.specs.Kept.{IsCountOf, HasSameSums, HasMoreAlong}
 use Rattle.cspf_book.specs.Leading.{route_in, moved_batch}
 use Rattle.cspf_book.specs.Takings.{IsPlacingTaken}
@@ -22,7 +22,8 @@ use Rattle.cspf_model.specs.declared.request.Request.{Request}
 use Rattle.cspf_book.specs.ById.{AreIdsOf, HasRoomForOne, HasEntered}
 use Rattle.cspf_book.proofs.ById.{ids_same, ids_placed}
 use Rattle.cspf_book.proofs.StateParts.{state_of}
-use Rattle.cspf_book.proofs.MovedRoutes.{route_at-index_of, own_routes-placed, placing_leads}
+use Rattle.cspf_book.proofs.SteppedPaths.{ends-offered}
+use Rattle.cspf_book.proofs.MovedRoutes.{route_at-index_of, own_routes-placed, ends-placed, placing_leads}
 use Rattle.cspf_book.proofs.Proposals.{own_route-offered, id-offered, placing_taken, nothing_taken, unplaced}
 use Rattle.cspf_book.proofs.Placing.{offered_of, others_left, answer_placed, room_for, links_left, small_aside, effective_aside}
 use Rattle.cspf_book.proofs.book.Book.place.Goals as goal
@@ -98,6 +99,7 @@ invariant_of-self-in-Some g c =
           (subst (λ (o : Option Placement). IfSome o (λ _. HasEntered c.set_aside.new.self.ids c.propose.new.self.ids id (c.self.inside.version + 1))) c.in-Some.is c.in-Ok.ensures.entered) c.put_in.ensures.ids);
       own_ids = subst HaveDistinctIds (ap (λ i. others i ps ++ p ∷ []) same_id ∙ sym items) (own_ids-placed ps p c.self.invariant.own_ids);
       routes = subst HaveOwnRoutes (sym items) (own_routes-placed id ps p c.self.invariant.routes (own_route-offered c.args.request.now c.args.hold room (answer_of c.in-Ok.outcome) p offer));
+      ends = subst ConnectTheirEnds (sym items) (ends-placed id ps p c.self.invariant.ends (ends-offered c.set_aside.new.self.effective c.args.request.now c.args.hold room (answer_of c.in-Ok.outcome) p c.in-Ok.ensures.best offer));
       few = omega (arith, ap length items, length_push (others id ps) p, kept, ap length gone);
       links = c.put_in.ensures.links;
       few_links = omega (arith, offered.1, c.set_aside.ensures.links, aside, pushed, c.put_in.ensures.links, ap links_placed listed, c.set_aside.ensures.fewer, c.make_room.ensures.links, c.self.invariant.few_links);

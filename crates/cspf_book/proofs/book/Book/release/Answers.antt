@@ -18,7 +18,7 @@ use Rattle.cspf_book.specs.Leading.{route_in, route_of, moved_batch, IsMoveBatch
 use Rattle.cspf_book.specs.Giving.{IsReleaseNotGiven}
 use Rattle.cspf_book.proofs.Ids.{index_of-le, none-behind, id_at-index_of, remove-index_of, own_ids-others}
 use Rattle.cspf_book.proofs.StateParts.{state_of, same_state}
-use Rattle.cspf_book.proofs.MovedRoutes.{route_at-index_of, own_routes-others, releasing_leads}
+use Rattle.cspf_book.proofs.MovedRoutes.{route_at-index_of, own_routes-others, ends-others, releasing_leads}
 use Rattle.cspf_book.proofs.Placing.{others_left, small_aside}
 use Rattle.cspf_book.proofs.Proposals.{unreleased}
 use Rattle.cspf_book.proofs.book.Book.release.Goals as goal
@@ -77,6 +77,7 @@ invariant_of-self-in-Ok g c =
           (subst (λ x. HasForgotten x c.forget.new.self c.args.id c.index_of-at.result) c.set_aside.ensures.ids c.forget.ensures));
       own_ids = rw gone (own_ids-others c.args.id ps c.self.invariant.own_ids);
       routes = rw gone (own_routes-others c.args.id ps c.self.invariant.routes);
+      ends = rw gone (ends-others c.args.id ps c.self.invariant.ends);
       few = omega (arith, ap length c.take_out.ensures.items, length-remove ps c.index_of-at.result within, c.self.invariant.few);
       links = c.set_aside.ensures.links ∙ ap (λ qs. links_placed (remove qs c.index_of-at.result)) c.deref-2.ensures.value ∙ ap links_placed (sym c.take_out.ensures.items);
       few_links = omega (arith, c.set_aside.ensures.fewer, c.self.invariant.few_links);

@@ -30,6 +30,7 @@ invariant_of-self g c =
       ids = ids_later c.self.inside.held.ids c.self.inside.version ps c.self.invariant.ids;
       own_ids = c.self.invariant.own_ids;
       routes = c.self.invariant.routes;
+      ends = c.self.invariant.ends;
       few = c.self.invariant.few;
       links = c.self.invariant.links;
       few_links = c.self.invariant.few_links;

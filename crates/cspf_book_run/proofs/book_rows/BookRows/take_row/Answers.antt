@@ -1,17 +1,31 @@
-use Rattle.std.proofs.lemmas.Result.{IfOk-weaker}
+use Rattle.std.proofs.lemmas.Result.{IfOk-weaker, on_err_weaker}
+use Rattle.csv.specs.Records.{fields_of}
 use Rattle.cspf_rows.specs.Steps.{step_of}
-use Rattle.cspf_book_run.proofs.BookSteps.{base_row}
+use Rattle.cspf_book_run.proofs.BookSteps.{base_row, base_lost}
 use Rattle.cspf_book_run.proofs.book_rows.BookRows.take_row.Goals as goal
 
 pub returns-in-Base-clause-answered : goal.returns-in-Base-clause-answered
-returns-in-Base-clause-answered c =
+returns-in-Base-clause-answered g c =
     rw c.in-Base.is
     (IfOk-weaker c.take.result _ _
-    (λ line lead. base_row c.one_refusal.ensures.unfit c.args.self.now.rows c.take.new.self (step_of c.in-Base.row) line.items lead)
+    (λ line lead. base_row g.K.Write.contents c.one_refusal.ensures.unfit c.args.self.now.rows c.take.new.self (fields_of c.args.fields.now) c.in-Base.row line.items lead)
     (rw c.of.ensures at c.take.ensures.answered))
 
+pub returns-in-Base-clause-lost : goal.returns-in-Base-clause-lost
+returns-in-Base-clause-lost g c =
+    rw c.in-Base.is
+    (on_err_weaker c.take.result
+    (λ lead. base_lost g.K.Write.contents c.one_refusal.ensures.unfit c.args.self.now.rows c.take.new.self (fields_of c.args.fields.now) c.in-Base.row lead)
+    (rw c.of.ensures at c.take.ensures.failed))
+
 pub returns-in-Place-clause-answered : goal.returns-in-Place-clause-answered
-returns-in-Place-clause-answered c = rw c.in-Place.is c.place.ensures.answered
+returns-in-Place-clause-answered g c = rw c.in-Place.is c.place.ensures.answered
+
+pub returns-in-Place-clause-lost : goal.returns-in-Place-clause-lost
+returns-in-Place-clause-lost g c = rw c.in-Place.is c.place.ensures.lost
 
 pub returns-in-Release-clause-answered : goal.returns-in-Release-clause-answered
-returns-in-Release-clause-answered c = rw c.in-Release.is c.release.ensures.answered
+returns-in-Release-clause-answered g c = rw c.in-Release.is c.release.ensures.answered
+
+pub returns-in-Release-clause-lost : goal.returns-in-Release-clause-lost
+returns-in-Release-clause-lost g c = rw c.in-Release.is c.release.ensures.lost

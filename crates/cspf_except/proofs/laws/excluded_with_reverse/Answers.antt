@@ -1,5 +1,0 @@
-use Rattle.cspf_except.proofs.WithoutLinks.{with_reverse}
-use Rattle.cspf_except.proofs.laws.excluded_with_reverse.Goals as goal
-
-pub returns : goal.returns
-returns c = with_reverse

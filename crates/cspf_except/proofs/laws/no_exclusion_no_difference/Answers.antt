@@ -1,5 +1,0 @@
-use Rattle.cspf_except.proofs.WithoutLinks.{no_difference}
-use Rattle.cspf_except.proofs.laws.no_exclusion_no_difference.Goals as goal
-
-pub returns : goal.returns
-returns c = no_difference

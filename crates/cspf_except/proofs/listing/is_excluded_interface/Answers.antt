@@ -1,6 +1,0 @@
-use Rattle.cspf_except.specs.Exclusions.{NamesInterface}
-use Rattle.cspf_except.proofs.ListedItems.{tested}
-use Rattle.cspf_except.proofs.listing.is_excluded_interface.Goals as goal
-
-pub returns : goal.returns
-returns c = tested (λ part. NamesInterface part c.args.address) _ _ c.any_names_interface.ensures.yes c.any_names_interface.ensures.no
