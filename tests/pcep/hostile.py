@@ -9,6 +9,7 @@ import struct
 import tempfile
 import time
 
+from pace import allowed, sample
 from pcep.beside import Client, Run, addresses, begun, wait
 from pcep.excluded import SOFT, prefix, router, srlg, xro
 from pcep.paired import NODE, objective, svec, two
@@ -25,7 +26,7 @@ MOST_SENT = 2  # times the messages that the front has to take; those behind the
 PCCS, VERSIONS = 5, 6  # that have the LSPs, and that move them
 BY_ITSELF = "PCRep 10.3.4.4 cost 100"  # from 3 to 4, which nothing else here concerns
 # Seconds within which the PCC beside them is answered, and in how many of its requests. In the gate other tests have the processors, too.
-# So the seconds are longer there, and those alone in which the front itself runs are as many as by hand.
+# So the seconds are longer there. Those in which the front itself runs are as many, by the pace of the processor beside the requests.
 SOON, OF_ALL = 0.1, 0.99
 BESIDE_TESTS = SOON if "MESSAGES" in os.environ else 1.0
 MARK = 0xffffffff  # the id of the request behind each batch: its refusal says that the front has taken the batch
@@ -101,7 +102,7 @@ class Beside:
     """A PCC whose requests are timed, and the processor time that the front takes until it has answered them."""
 
     def __init__(self, run, source):
-        self.client, self.times, self.worked, self.found = begun(run, source), [], [], set()
+        self.client, self.times, self.worked, self.paces, self.found = begun(run, source), [], [], [], set()
         self.clock = ~run.pcep.pid << 3 | 2  # that of the front's processor time (clock_getcpuclockid(3))
         self.request = request(ends=pack(4, ip(3) + ip(4), must=True))
 
@@ -113,11 +114,13 @@ class Beside:
         self.found.add(answer)
         self.times.append(time.monotonic() - began)
         self.worked.append(time.clock_gettime(self.clock) - worked)
+        self.paces.append(sample())
 
     def judge(self, checks, name):
         checks.same(f"{name}: the PCC beside them is answered each time", self.found, {BY_ITSELF})
         told = f"{len(self.times)} answers beside them"
-        for what, times, most in (("soon", self.times, BESIDE_TESTS), ("after little work of the front", self.worked, SOON)):
+        worked = allowed(SOON, self.paces)
+        for what, times, most in (("soon", self.times, BESIDE_TESTS), ("after little work of the front", self.worked, worked)):
             times = sorted(times)
             checks.true(f"{name}: {what}", sum(taken < most for taken in times) >= OF_ALL * len(times), times[-20:])
             median, nearly, longest = (1e3 * times[int(part * (len(times) - 1))] for part in (0.5, OF_ALL, 1))
