@@ -15,7 +15,7 @@ import time
 
 from program.refusal import COMPILER, Refuser, each
 from program.refused import CAUSES, REFUSALS, is_stopped
-from reference import books
+from reference import books, formats
 
 KILLS = 100
 STOPPED = b"routed: stopped\n"
@@ -70,6 +70,29 @@ def remade(program, checks, streams):
             kept = Kept(rows)
             checks.same(f"kept of {name}", ran(program, room, kept.rows), (kept.status, kept.lines, b"", kept.text))
             checks.same(f"the book of what is kept of {name}", ran(program, room, kept.text), (0, kept.accepted, b"", kept.text))
+
+
+def same_book(program, checks, streams):
+    """A run over what is kept makes the same book: after the whole stream and after what is kept of it, placements and links are shown
+    alike."""
+    shown = 0
+    for name, rows in streams:
+        kept = Kept(rows)
+        words = [line.split() for line in kept.lines.decode().splitlines()]
+        asked = {f"show,{it[1]}\n": None for it in words if it[0] in ("place", "held")}
+        asked |= {f"left,{','.join(fields[1:3])}\n": None for fields in formats.records(rows) if fields[0] == "put"}
+
+        def last(lines):
+            """Those of the rows that ask."""
+            return [line for line in lines if line.startswith(("show ", "left "))][-len(asked):]
+
+        texts = [f"{text}{''.join(asked)}" for text in (rows, kept.text.decode("latin-1"))]
+        wanted, *found = [last(books.book(text)[1]) for text in texts]
+        if program:
+            found += [last(program.run(["book"], text.encode("latin-1"))[1].decode().splitlines()) for text in texts]
+        checks.same(f"the book of {name}, and that of what is kept of it", found, [wanted] * len(found))
+        shown += sum(line.startswith("show ") and " refused: " not in line for line in wanted)
+    checks.true("placements are shown", shown > 50, shown)
 
 
 CHANGES = ("put,", "drop,", "node,")
@@ -130,11 +153,12 @@ def refused_files(program, checks):
         checks.same("no file to keep in", (status, out), (1, b""))
 
 
-def full(program, checks, name, rows):
-    """A file that is full after each byte: the row that isn't kept whole is refused, and requests after it are answered."""
+def full(program, checks, name, rows, step=1):
+    """A file that is full after each byte, or after each so many: the row that isn't kept whole is refused, and requests after it are
+    answered."""
     whole, faults = Kept(rows), []
     with tempfile.TemporaryDirectory() as room:
-        for size in range(len(whole.text) + 1):
+        for size in range(0, len(whole.text) + 1, step):
             kept, words = Kept(rows, size), ["--explain"] * (size % 2)
             found = ran(program, room, kept.rows, *words, preexec_fn=lambda: resource.setrlimit(resource.RLIMIT_FSIZE, (size, size)))
             said = f"routed: keep {room}/kept: write: file too large\n".encode() if words and size < len(whole.text) else b""

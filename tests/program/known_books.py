@@ -11,10 +11,19 @@ ENDS = "1.1.1.1,10.0.12.1,2.2.2.2,10.0.12.2", "2.2.2.2,10.0.12.2,1.1.1.1,10.0.12
 CIRCUIT = "".join(f"put,{ends},10,0x1,{FREE}\n" for ends in ENDS)
 BASE = CIRCUIT + "end,1,2\n"
 DIRECT = "route cost=10 hops=1 again=no ero=000c140101080a000c022000"
+ROUTE = "0a000c0102020202"  # of DIRECT, in a held row
 
 
 def place(name, hold=7, bandwidth=1, masks=MASKS, hops="", ends="1.1.1.1,2.2.2.2"):
     return f"place,{name},{ends},{hold},{bandwidth},{masks},{hops}\n"
+
+
+def offer(*given, **more):
+    return place(*given, **more).replace("place", "offer", 1)
+
+
+def held_row(*given, route=ROUTE, **more):
+    return place(*given, **more).replace("place", "held", 1).rstrip("\n") + f",{route}\n"
 
 
 class Reference:
@@ -59,10 +68,8 @@ BAD_HOPS = [("x", "hops 1"), ("1.1.1.1/32", "hops 1"), ("1.1.1.1/33s", "hops 1")
             ("ero:00441401" + "0108010101012000" * 8, "hops ero count")]
 
 
-def bad_rows():
-    """Rows that are no place and no release, each with its refusal."""
-    good = place(1).rstrip("\n").split(",")
-
+def bad_fields(good):
+    """Rows that have the fields of a request, of which one or two are bad, each with its refusal, from the fields of a good one."""
     def turned(field, text):
         return ",".join([*good[:field - 1], text, *good[field:]])
 
@@ -78,9 +85,15 @@ def bad_rows():
             yield ",".join([*good[:field - 1], "x", "x",
                             *good[field + 1:]]), f"{'address' if field in (3, 4) else 'mask' if field > 6 else 'number'} {field}"
     yield ",".join([*good[:4], "8", "x", *good[6:]]), "priority"
-    yield ",".join([*good[:8], "x", "x"]), "mask 9"
+    yield ",".join([*good[:8], "x", "x", *good[10:]]), "mask 9"
     yield turned(4, "1.1.1.1"), "same-ends"
-    yield ",".join([*good[:3], "1.1.1.1", *good[4:9], "x"]), "hops 1"  # ends are compared last
+    yield ",".join([*good[:3], "1.1.1.1", *good[4:9], "x", *good[10:]]), "hops 1"  # ends are compared last
+
+
+def bad_rows():
+    """Rows that are no place and no release, each with its refusal."""
+    good = place(1).rstrip("\n").split(",")
+    yield from bad_fields(good)
     for row in ["place", "place,1", ",".join(good[:9]), ",".join([*good, ""]), ",".join(good[:9] + ["x", "y"]), "release", "release,1,",
                 "release,1,1", "release,x,"]:
         yield row, "fields"
@@ -130,8 +143,14 @@ def placings():
     """Placings and releases up to version 900,000, and rows after it, of which only the base's batch is accepted."""
     pairs = 449_999
     lines = "".join(f"place 1 v{2 * at} {DIRECT}\nreleased 1 v{2 * at + 1}\n" for at in range(1, pairs + 1))
-    return BASE + (place(1) + "release,1\n") * pairs + place(1) + place(2) + "release,1\nend,2,0\n", (
-        f"base 1 v1\n{lines}place 1 v900000 {DIRECT}\nplace 2 refused: exhausted\nrelease 1 refused: exhausted\nbase 2 v900001\n")
+    after = (place(2) + "release,1\n" + held_row(1) + held_row(2) + offer(1) + offer(2) + "show,1\nshow,2\nleft,2.2.2.2,10.0.12.2\n"
+             + "end,2,0\n" + held_row(2) + offer(2) + "show,1\n")
+    shown = "from=1.1.1.1 to=2.2.2.2 hold=7 bandwidth=1 links=1 1.1.1.1,10.0.12.1\n"
+    return BASE + (place(1) + "release,1\n") * pairs + place(1) + after, (
+        f"base 1 v1\n{lines}place 1 v900000 {DIRECT}\nplace 2 refused: exhausted\nrelease 1 refused: exhausted\n"
+        f"held 1 refused: exhausted\nheld 2 refused: exhausted\noffer 1 refused: exhausted\noffer 2 refused: exhausted\n"
+        f"show 1 v900000 {shown}show 2 refused: absent\nleft 2.2.2.2,10.0.12.2 v900000 base={FREE} counted=0,0,0,0,0,0,0,0 left={FREE}\n"
+        f"base 2 v900001\nheld 2 refused: exhausted\noffer 2 refused: exhausted\nshow 1 v900001 {shown}")
 
 
 def longest():
@@ -154,10 +173,11 @@ def longest():
     there = f"{address(1, count - 1)}/32l {address(1, 0)}/32l {address(1, 2)}/32s {address(1, 4)}/32s"
     ero = "".join(f"0108{''.join(f'{int(part):02x}' for part in it.split('.'))}2000" for it in [*remotes, address(22, 2), address(22, 4)])
     ends = [f"{address(1, 0)},{address(1, at)}" for at in (4, 6)]
-    placed = place(1, ends=ends[0], hops=there) + place(1, ends=ends[1], hops=f"{there} {address(1, 6)}/32s") + "release,1\n"
+    placed = "".join(row(1, ends=ends[0], hops=there) + row(1, ends=ends[1], hops=f"{there} {address(1, 6)}/32s") for row in (offer, place))
     cost, length = 2 * (count - 1) + 2 * 100_000, len(ero) // 2 + 4
-    return "".join(rows) + placed, (
-        f"base 1 v1\nplace 1 v2 route cost={cost} hops=2048 again=yes ero={length:04x}1401{ero}\nplace 1 refused: long\nreleased 1 v3\n")
+    told = f"route cost={cost} hops=2048 again=yes ero={length:04x}1401{ero}"
+    return "".join(rows) + placed + "release,1\n", (
+        f"base 1 v1\noffer 1 v1 {told}\noffer 1 refused: long\nplace 1 v2 {told}\nplace 1 refused: long\nreleased 1 v3\n")
 
 
 def address(top, number):

@@ -6,6 +6,7 @@ import collections
 import copy
 import functools
 import math
+import re
 
 from reference import formats, runs
 from reference.formats import Network, Refused, address_text
@@ -18,6 +19,8 @@ MOST_PLACEMENTS = 65_536
 MOST_PLACED_LINKS = 2_048
 MOST_ROUTES_LINKS = 1_048_576
 MOST_PLACING_VERSIONS = 900_000  # from this version on only base batches are accepted
+CHANGES = ("put", "drop", "node")
+STOPPED = ("end", "place", "release", "held", "offer")  # rows that are refused once a write to the file of --keep has failed
 
 
 # ---- rows
@@ -29,13 +32,33 @@ def place(fields):
     return {**asked, "setup": SETUP, "hold": asked["setup"]}
 
 
-def release(fields):
+def held(fields):
+    """The fields of a place row, and the route."""
+    request = place(fields[:10])
+    return {"id": request["id"], "request": request, "route": route(fields[10], request["from"], request["to"])}
+
+
+def route(field, head, tail):
+    """Links from the head-end to the tail-end. Each is 16 hexadecimal digits: its local address, and then the router that it leads to."""
+    if not re.fullmatch("(?:[0-9A-Fa-f]{16})+", field):
+        raise Refused("route")
+    links, router = [], head
+    for local, to in re.findall("(.{8})(.{8})", field):
+        links.append({"from": router, "local": int(local, 16), "to": int(to, 16)})
+        router = links[-1]["to"]
+    if router != tail:
+        raise Refused("route")
+    return tuple(links)
+
+
+def named(fields):
     return {"id": formats.number(fields, 2, 64)}
 
 
 def row(fields):
     """The kind of a row, and what it says: five kinds are those of `routed solve`."""
-    kinds = {"place": (place, 10), "release": (release, 2)}
+    kinds = {"place": (place, 10), "release": (named, 2), "held": (held, 11), "offer": (place, 10), "show": (named, 2),
+             "left": (formats.drop, 3)}
     if fields[0] not in kinds:
         return formats.row(fields)
     read, count = kinds[fields[0]]
@@ -51,7 +74,12 @@ def key_of(link):
     return link["from"], link["local"]
 
 
-# A request with its holding priority, and the links of its route as they were when it was placed.
+def key_text(link):
+    return f"{address_text(link['from'])},{address_text(link['local'])}"
+
+
+# A request with its holding priority, and the links of its route. Those of a place row are as they were when it was placed. Of those of a
+# held row no more is known than where each begins, its local address, and where it leads.
 Placement = collections.namedtuple("Placement", "request route")
 
 
@@ -97,7 +125,20 @@ def over(changes, placements):
         if kind == "put":
             for priority in PRIORITIES:
                 if change["free"][priority] < sums.get(key_of(change), NOTHING)[priority]:
-                    yield f"over {address_text(change['from'])},{address_text(change['local'])} {priority}"
+                    yield f"over {key_text(change)} {priority}"
+
+
+def made_over(base, placements, more):
+    """A line for each link of one more placement's route that the base has, and each priority at which the others count no more than it
+    has, and together with this one they do."""
+    sums = counted(placements), counted([*placements, more])
+    for link in more.route:
+        key = key_of(link)
+        if key in base.links:
+            before, after = (them.get(key, NOTHING) for them in sums)
+            for priority in PRIORITIES:
+                if before[priority] <= base.links[key]["free"][priority] < after[priority]:
+                    yield f"over {key_text(link)} {priority}"
 
 
 def lost(before, after, placements):
@@ -123,7 +164,8 @@ def admits(base, placement):
 
 
 class Book:
-    """The base, how many batches made it, how many of these, placements and releases there were, and the placements."""
+    """The base, how many batches made it, how many of these, of placements, held ones too, and of releases there were, and the
+    placements."""
 
     def __init__(self):
         self.base, self.batches, self.version, self.placements = Network(), 0, 0, []
@@ -165,6 +207,30 @@ class Book:
             self.placements, self.version = [*others, Placement(request, outcome)], self.version + 1
         return f"place {request['id']} v{self.version} {formats.outcome_text(request, outcome)}"
 
+    def offer(self, request):
+        """The line of a place row on a copy of the book, with its own word and the book's version."""
+        outcome = copy.copy(self).place(request).split(" ", 3)[3]
+        return f"offer {request['id']} v{self.version} {outcome}"
+
+    def restore(self, request, links):
+        """The lines of a placement that comes with its route. The first refusal that applies is raised, and then nothing changes."""
+        if self.version >= MOST_PLACING_VERSIONS:
+            raise Refused("exhausted")
+        if len(self.others(request["id"])) < len(self.placements):
+            raise Refused("same-id")
+        if len(self.placements) == MOST_PLACEMENTS:
+            raise Refused("full")
+        if len(links) > MOST_PLACED_LINKS:
+            raise Refused("long")
+        if len({key_of(link) for link in links}) < len(links):
+            raise Refused("twice")
+        if sum(len(it.route) for it in self.placements) + len(links) > MOST_ROUTES_LINKS:
+            raise Refused("links")
+        more = Placement(request, links)
+        lines = list(made_over(self.base, self.placements, more))
+        self.placements, self.version = [*self.placements, more], self.version + 1
+        return [*lines, f"held {request['id']} v{self.version}"]
+
     def release(self, name):
         others = self.others(name)
         if self.version >= MOST_PLACING_VERSIONS:
@@ -173,6 +239,24 @@ class Book:
             raise Refused("absent")
         self.placements, self.version = others, self.version + 1
         return f"released {name} v{self.version}"
+
+    def show(self, name):
+        found = [it for it in self.placements if it.request["id"] == name]
+        if not found:
+            raise Refused("absent")
+        request, links = found[0]
+        return (f"show {name} v{self.version} from={address_text(request['from'])} to={address_text(request['to'])} "
+                f"hold={request['hold']} bandwidth={request['bandwidth']} links={len(links)} {' '.join(map(key_text, links))}")
+
+    def left(self, asked):
+        """The figures of a link: in the base, what is counted on it, and in the effective database."""
+        key = key_of(asked)
+        if key not in self.base.links:
+            raise Refused("absent")
+        told = {"base": self.base.links[key]["free"], "counted": counted(self.placements).get(key, NOTHING),
+                "left": effective(self.base, self.placements).links[key]["free"]}
+        texts = [f"{name}={','.join(map(str, numbers))}" for name, numbers in told.items()]
+        return f"left {key_text(asked)} v{self.version} {' '.join(texts)}"
 
 
 def steps(rows, room=math.inf):
@@ -188,20 +272,20 @@ def steps(rows, room=math.inf):
             kind, content = row(fields)
             if kind == "end":
                 subject, open_ones, changes = f"batch {content['number']}", changes, []
-            elif kind in ("place", "release"):
-                subject = f"{kind} {content['id']}"
-            if is_stopped and kind in ("end", "place", "release"):
+            elif kind not in CHANGES:
+                subject = f"{kind} {key_text(content) if kind == 'left' else content['id']}"
+            if is_stopped and kind in STOPPED:
                 raise Refused("stopped")
-            if kind in ("put", "drop", "node"):
+            if kind in CHANGES:
                 changes.append((kind, content))
             elif kind == "end":
                 lines, text = book.end(open_ones, content), runs.batch_text(content["number"], open_ones)
-            elif kind == "ask":
-                lines = [book.ask(content)]
-            elif kind == "place":
-                lines = [book.place(content)]
+            elif kind == "held":
+                lines = book.restore(content["request"], content["route"])
+            elif kind in ("release", "show"):
+                lines = [getattr(book, kind)(content["id"])]
             else:
-                lines = [book.release(content["id"])]
+                lines = [getattr(book, kind)(content)]
             if book.version > before.version:
                 if len(text) > room:
                     book, kept, is_stopped = before, text[:room], True

@@ -2,6 +2,7 @@
 import inspect
 import os
 import re
+import textwrap
 import types
 
 HERE = os.path.dirname(os.path.abspath(__file__))
@@ -28,9 +29,15 @@ def fresh(names):
 
 
 def rebound(function, old, new):
-    """A function whose source has other words in one place."""
-    source = inspect.getsource(function)
+    """A function or a method whose source has other words in one place."""
+    source, made = textwrap.dedent(inspect.getsource(function)), {}
     assert source.count(old) == 1
-    names = function.__globals__
-    exec(source.replace(old, new), names)
-    return names[function.__name__]
+    exec(source.replace(old, new), function.__globals__, made)
+    return made[function.__name__]
+
+
+def forgiven(found, words):
+    """A status where refusals that begin with these words don't count, and the lines."""
+    _, lines = found
+    bad = [line for line in lines if " refused: " in line and not line.startswith(words)]
+    return 2 if bad or lines[-1:] and lines[-1].startswith(("unended ", "too many rows")) else 0, lines

@@ -1,5 +1,5 @@
 """Wrong programs and books: the reference with one rule turned. What compares programs with it has to tell each apart."""
-from reference import wrong_counts, wrong_limits, wrong_lines, wrong_networks, wrong_rows, wrong_runs
+from reference import wrong_counts, wrong_held, wrong_limits, wrong_lines, wrong_networks, wrong_rows, wrong_runs, wrong_shown
 from reference.turning import turned
 
 RULES, LIMITS = (wrong_rows, wrong_networks, wrong_runs), (wrong_limits,)
@@ -12,4 +12,4 @@ def programs(rules):
 
 def books():
     """Pairs of what a wrong book does and its module."""
-    return turned((wrong_counts, wrong_lines), "books")
+    return turned((wrong_counts, wrong_lines, wrong_held, wrong_shown), "books")

@@ -45,7 +45,7 @@ def counts_on_the_reverse_too(it):
     right = it.counted
 
     def counted(placements):
-        back = [it.Placement(request, tuple({"from": link["to"], "local": link["remote"]} for link in route))
+        back = [it.Placement(request, tuple({"from": link["to"], "local": link["remote"]} for link in route if "remote" in link))
                 for request, route in placements]
         return right([*placements, *back])
     it.counted = counted
@@ -65,7 +65,7 @@ def counts_by_the_router_alone(it):
         return run
 
     it.key_of = lambda link: (right(link)[0], 0)
-    it.admits, it.Book.place = with_right_keys(it.admits), with_right_keys(it.Book.place)
+    it.admits, it.Book.place, it.Book.restore = map(with_right_keys, (it.admits, it.Book.place, it.Book.restore))
 
 
 def counts_against_itself(it):

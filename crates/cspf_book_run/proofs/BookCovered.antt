@@ -1,33 +1,36 @@
 -- From each state on, a link stays covered, or its `over` line is written. An `over` line reports
 -- too little bandwidth. A link is covered at a priority if the placements count at most its
 -- unreserved bandwidth there.
-use Rattle.std.proofs.Common.{◌≡◌, ◌⊎◌, ℕ, zero, suc, ◌+◌, ◌<◌, ◌≤◌, List, [], ◌∷◌, ◌++◌, Result, Ok, Err, IfOk, inl, inr, sym, ap, subst, ◌∙◌, append_assoc, arith}
+use Rattle.std.proofs.Common.{◌≡◌, ◌⊎◌, ℕ, zero, suc, ◌+◌, ◌<◌, ◌≤◌, List, [], ◌∷◌, ◌++◌, Result, Ok, Err, IfOk, inl, inr, refl, sym, ap, subst, ◌∙◌, append_assoc, arith}
 use Rattle.std.specs.List.{Contains, flat_map}
 use Rattle.cspf_model.specs.Best.{Answer, route, IsBestAnswer}
 use Rattle.cspf_model.specs.Walks.{IsWalk}
 use Rattle.cspf_model.specs.Database.{IsLinkOf}
 use Rattle.cspf_model.specs.declared.link.Link.{Link}
 use Rattle.cspf_model.specs.declared.request.Request.{Request}
-use Rattle.cspf_rows.specs.declared.row_error.RowError.{RowError}
 use Rattle.cspf_stream.specs.RowAnswers.{AreAnswered}
 use Rattle.cspf_rows.specs.Steps.{step_of}
 use Rattle.cspf_rows.specs.declared.step.Step.{Step}
 use Rattle.cspf_rows.specs.declared.step.Step.TheVariants as step
 use Rattle.cspf_book.specs.declared.placement.Placement.{Placement}
-use Rattle.cspf_book.specs.Placements.{others}
+use Rattle.cspf_book.specs.Placements.{id_of, others, placement_of}
+use Rattle.cspf_book.specs.LinkFigures.{figures_at}
 use Rattle.cspf_book.specs.Effective.{effective}
 use Rattle.cspf_book.specs.BookState.{BookState, effective_beside, IsAnswerPlaced}
 use Rattle.cspf_book.specs.declared.over.Over.{Over}
-use Rattle.cspf_book.specs.OverLinks.{over, over_at}
-use Rattle.cspf_book.specs.Laws.{IsCovered, PlacingKeepsCovered, ReleasingKeepsCovered, AbsorbingKeepsCovered}
+use Rattle.cspf_book.specs.OverLinks.{over, over_at, made_over}
+use Rattle.cspf_book.specs.Laws.{IsCovered, PlacingKeepsCovered, ReleasingKeepsCovered, AbsorbingKeepsCovered, RestoringKeepsCovered}
 use Rattle.cspf_book_run.specs.declared.book_row.BookRow.{BookRow}
 use Rattle.cspf_book_run.specs.declared.book_row.BookRow.TheVariants as book_row
+use Rattle.cspf_book_run.specs.declared.book_row_error.BookRowError.{BookRowError}
+use Rattle.cspf_book_run.specs.PlacementLines.{held_line}
 use Rattle.cspf_book_run.specs.BookRows.{book_row_of}
 use Rattle.cspf_book_run.specs.BookLines.{over_line, lost_line, base_line}
-use Rattle.cspf_book_run.specs.BookScript.{BookRunState, book_start, book_answers, after_base_batch, AreBaseLines, IsBookStepAnswered, IsBookRowAnswered}
+use Rattle.cspf_book_run.specs.BookScript.{BookRunState, book_start, book_answers, changers, after_base_batch, after_held, held_lines, AreBaseLines, IsBookStepAnswered, IsBookRowAnswered}
 use Rattle.cspf_book_run.specs.BookScriptLaws.{IsBookCovered, IsSaidOver, RowsCoverSince}
 use Rattle.cspf_book_run.specs.BookStates.{IsReadable}
 use Rattle.cspf_book_run.proofs.BookRowLemmas.{readable_row}
+use Rattle.cspf_book_run.proofs.Looks.{Looks, shown_looks, left_looks, look_same}
 
 -- The laws of covered links on which these proofs rest. A covered link has enough bandwidth for the
 -- placements.
@@ -35,6 +38,7 @@ pub record KeepCovered : Type 0 where
   pub placing : PlacingKeepsCovered
   pub releasing : ReleasingKeepsCovered
   pub absorbing : AbsorbingKeepsCovered
+  pub restoring : RestoringKeepsCovered
 
 -- At the start there are no placements, so each link is covered.
 pub covered_at_first : IsBookCovered book_start.book
@@ -83,26 +87,30 @@ module _ (l : Link) (priority : ℕ) where
   -- ---- how rows change the bandwidth that is counted on the link
 
   -- Rows lead from the state `s` to the state `t`. If the link isn't covered in `t`, one of two
-  -- claims is true. It wasn't covered in `s` either, or the rows accept a base batch and their
-  -- lines have the link's `over` line.
+  -- claims is true. It wasn't covered in `s` either, or the rows accept a base batch or restore a
+  -- placement, and their lines have the link's `over` line.
   pub record KeepsCover (s t : BookRunState) (lines : List ℕ) : Type 1 where
-    pub batches : s.batches ≤ t.batches
+    pub count : changers s ≤ changers t
     pub cover : (X : Type 0) → CoveredOr X s.book l priority
-        → CoveredOr (X ⊎ ((s.batches < t.batches) × IsSaidOver lines l priority)) t.book l priority
+        → CoveredOr (X ⊎ ((changers s < changers t) × IsSaidOver lines l priority)) t.book l priority
 
-  -- If rows accept no base batch, and a link that is covered before them is covered after them,
+  -- If rows accept no base batch and restore no placement, and a link that is covered before them is covered after them,
   -- `KeepsCover` holds for these rows.
-  kept : (s t : BookRunState) (lines : List ℕ) → t.batches ≡ s.batches
+  kept : (s t : BookRunState) (lines : List ℕ) → changers t ≡ changers s
       → ((X : Type 0) → CoveredOr X s.book l priority → CoveredOr X t.book l priority) → KeepsCover s t lines
-  kept s t lines batches keeps = record {
-    batches = omega (arith, batches);
+  kept s t lines count keeps = record {
+    count = omega (arith, count);
     cover = λ X covered there. elim (keeps X covered there) [ inl c ↦ inl c | inr x ↦ inr (inl x) ];
   }
 
-  -- If rows change neither the book nor the number of accepted base batches, `KeepsCover` holds for
+  -- If rows change neither the book nor the number of accepted base batches and restored placements, `KeepsCover` holds for
   -- these rows.
-  stays : (s t : BookRunState) (lines : List ℕ) → t.batches ≡ s.batches → t.book ≡ s.book → KeepsCover s t lines
-  stays s t lines batches book = kept s t lines batches (λ X covered. subst (λ (b : BookState). CoveredOr X b l priority) (sym book) covered)
+  stays : (s t : BookRunState) (lines : List ℕ) → changers t ≡ changers s → t.book ≡ s.book → KeepsCover s t lines
+  stays s t lines count book = kept s t lines count (λ X covered. subst (λ (b : BookState). CoveredOr X b l priority) (sym book) covered)
+
+  -- `KeepsCover` holds for rows that only look.
+  looks : (s t : BookRunState) (lines : List ℕ) → Looks s t → KeepsCover s t lines
+  looks s t lines look = stays s t lines (look_same changers s t refl look) (look_same (λ (x : BookRunState). x.book) s t refl look)
 
   module _ (laws : KeepCovered) (below : priority < 8) where
     -- If the link is covered, or X holds, this is still true after a request is placed
@@ -129,7 +137,7 @@ module _ (l : Link) (priority : ℕ) where
     -- its `over` line is among the lines of the batch.
     absorbing_covers : (s t : BookRunState) (number : ℕ) (line : List ℕ) → AreBaseLines s number line → t ≡ after_base_batch s → KeepsCover s t line
     absorbing_covers s t number line (ids, lost, is) after = rw after (record {
-      batches = omega arith;
+      count = omega arith;
       cover = λ X covered there. elim (laws.absorbing s.book.base s.book.placements s.changes l priority there below) [
         | inl was ↦ elim (covered was) [ inl c ↦ inl c | inr x ↦ inr (inl x) ]
         | inr after ↦ elim after [
@@ -144,45 +152,73 @@ module _ (l : Link) (priority : ℕ) where
       ];
     })
 
+    -- `KeepsCover` holds for a restored placement: a link that was covered is still covered, or its
+    -- `over` line is among the lines of the row.
+    restoring_covers : (s t : BookRunState) (p : Placement) (line : List ℕ) → line ≡ held_lines s p → t ≡ after_held s p → KeepsCover s t line
+    restoring_covers s t p line is after = rw after (record {
+      count = omega arith;
+      cover = λ X covered there. elim (covered there) [
+        | inr x ↦ inr (inl x)
+        | inl was ↦ elim (laws.restoring s.book.base s.book.placements p l priority there below was) [
+          | inl c ↦ inl c
+          | inr named ↦
+              let said = said_among (made_over s.book.base s.book.placements p) (over_at l priority) named in
+              let first : List ℕ = flat_map over_line (made_over s.book.base s.book.placements p) in
+              inr (inr (omega arith, said_first line first (held_line (id_of p) (s.book.version + 1)) is said))
+        ]
+      ];
+    })
+
     step_covers : (s t : BookRunState) (row : Step) (line : List ℕ) → IsBookStepAnswered s row line t → KeepsCover s t line
-    step_covers s t (step.Change c) line a = stays s t line (ap (λ (x : BookRunState). x.batches) a.1) (ap (λ (x : BookRunState). x.book) a.1)
-    step_covers s t (step.Ask q) line a = stays s t line (ap (λ (x : BookRunState). x.batches) a.3) (ap (λ (x : BookRunState). x.book) a.3)
+    step_covers s t (step.Change c) line a = stays s t line (ap changers a.1) (ap (λ (x : BookRunState). x.book) a.1)
+    step_covers s t (step.Ask q) line a = stays s t line (ap changers a.3) (ap (λ (x : BookRunState). x.book) a.3)
     step_covers s t (step.End number count) line (inl (accepted, lines, after)) = absorbing_covers s t number line lines after
     step_covers s t (step.End number count) line (inr (why, unaccepted, is, line_is, after)) =
-        stays s t line (ap (λ (x : BookRunState). x.batches) after) (ap (λ (x : BookRunState). x.book) after)
+        stays s t line (ap changers after) (ap (λ (x : BookRunState). x.book) after)
 
-    row_covers : (place : ℕ) (s t : BookRunState) (r : Result BookRow RowError) (line : List ℕ)
+    row_covers : (place : ℕ) (s t : BookRunState) (r : Result BookRow BookRowError) (line : List ℕ)
         → IfOk r IsReadable → IsBookRowAnswered place s r line t → KeepsCover s t line
-    row_covers place s t (Err error) line readable a = stays s t line (ap (λ (x : BookRunState). x.batches) a.1) (ap (λ (x : BookRunState). x.book) a.1)
+    row_covers place s t (Err error) line readable a = stays s t line (ap changers a.1) (ap (λ (x : BookRunState). x.book) a.1)
     row_covers place s t (Ok (book_row.Base row)) line readable a = step_covers s t (step_of row) line a
     row_covers place s t (Ok (book_row.Place q hold)) line readable (inl (x, after)) =
-        kept s t line (ap (λ (y : BookRunState). y.batches) after) (placing_covers s.book t.book q hold x.answer readable.0 x.best x.placed)
+        kept s t line (ap changers after) (placing_covers s.book t.book q hold x.answer readable.0 x.best x.placed)
     row_covers place s t (Ok (book_row.Place q hold)) line readable (inr (why, is, line_is, after)) =
-        stays s t line (ap (λ (x : BookRunState). x.batches) after) (ap (λ (x : BookRunState). x.book) after)
+        stays s t line (ap changers after) (ap (λ (x : BookRunState). x.book) after)
     row_covers place s t (Ok (book_row.Release id)) line readable (inl (room, has, line_is, after)) =
         let book = ap (λ (x : BookRunState). x.book) after in
-        kept s t line (ap (λ (x : BookRunState). x.batches) after) (λ X covered. subst (λ (b : BookState). CoveredOr X b l priority) (sym book)
+        kept s t line (ap changers after) (λ X covered. subst (λ (b : BookState). CoveredOr X b l priority) (sym book)
         (λ there. elim (covered there) [ inl c ↦ inl (laws.releasing s.book.placements id l priority c) | inr x ↦ inr x ]))
     row_covers place s t (Ok (book_row.Release id)) line readable (inr (why, is, line_is, after)) =
-        stays s t line (ap (λ (x : BookRunState). x.batches) after) (ap (λ (x : BookRunState). x.book) after)
+        stays s t line (ap changers after) (ap (λ (x : BookRunState). x.book) after)
+    row_covers place s t (Ok (book_row.Held p)) line readable (inl (room, may, line_is, after)) = restoring_covers s t p line line_is after
+    row_covers place s t (Ok (book_row.Held p)) line readable (inr (why, is, line_is, after)) =
+        stays s t line (ap changers after) (ap (λ (x : BookRunState). x.book) after)
+    row_covers place s t (Ok (book_row.Offer q hold)) line readable (inl (x, after)) =
+        stays s t line (ap changers after) (ap (λ (y : BookRunState). y.book) after)
+    row_covers place s t (Ok (book_row.Offer q hold)) line readable (inr (why, is, line_is, after)) =
+        stays s t line (ap changers after) (ap (λ (x : BookRunState). x.book) after)
+    row_covers place s t (Ok (book_row.Show id)) line readable a =
+        looks s t line (shown_looks s t id (placement_of id s.book.placements) line a)
+    row_covers place s t (Ok (book_row.Left from local)) line readable a =
+        looks s t line (left_looks s t (from, local) (figures_at s.book.base s.book.placements (from, local)) line a)
 
     rows_cover : (place : ℕ) (s t : BookRunState) (rows : List (List (List ℕ))) (lines : List ℕ)
         → AreAnswered book_answers place s rows lines t → KeepsCover s t lines
     unfolding AreAnswered
-    rows_cover place s t [] lines a = stays s t lines (ap (λ (x : BookRunState). x.batches) a.1) (ap (λ (x : BookRunState). x.book) a.1)
+    rows_cover place s t [] lines a = stays s t lines (ap changers a.1) (ap (λ (x : BookRunState). x.book) a.1)
     rows_cover place s t (fields ∷ rows) lines a =
         let first = row_covers place s a.1 (book_row_of fields) a.0 (readable_row fields) a.3 in
         let rest = rows_cover (suc place) a.1 t rows a.2 a.5 in
         record {
-          batches = omega (arith, first.batches, rest.batches);
-          cover = λ X covered there. elim (rest.cover (X ⊎ ((s.batches < a.1.batches) × IsSaidOver a.0 l priority)) (first.cover X covered) there) [
+          count = omega (arith, first.count, rest.count);
+          cover = λ X covered there. elim (rest.cover (X ⊎ ((changers s < changers a.1) × IsSaidOver a.0 l priority)) (first.cover X covered) there) [
             | inl c ↦ inl c
             | inr other ↦ elim other [
               | inl before ↦ elim before [
                 | inl x ↦ inr (inl x)
-                | inr said ↦ inr (inr (omega (arith, said.0, rest.batches), said_first lines a.0 a.2 a.4 said.1))
+                | inr said ↦ inr (inr (omega (arith, said.0, rest.count), said_first lines a.0 a.2 a.4 said.1))
               ]
-              | inr said ↦ inr (inr (omega (arith, said.0, first.batches), said_second lines a.0 a.2 a.4 said.1))
+              | inr said ↦ inr (inr (omega (arith, said.0, first.count), said_second lines a.0 a.2 a.4 said.1))
             ]
           ];
         }

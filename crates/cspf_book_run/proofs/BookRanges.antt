@@ -18,14 +18,14 @@ use Rattle.cspf_model.proofs.Databases.LastChanges.{link_at-after_change}
 use Rattle.cspf_rows.specs.JournalLaws.{IsChangeInRange}
 use Rattle.cspf_rows.specs.Says.{AreRowsRead}
 use Rattle.cspf_rows.specs.Written.{IsLinkInRange}
-use Rattle.cspf_rows.specs.declared.row_error.RowError.{RowError}
 use Rattle.cspf_stream.specs.RowAnswers.{AreAnswered}
 use Rattle.cspf_rows.specs.Steps.{step_of}
 use Rattle.cspf_rows.specs.declared.step.Step.{Step}
 use Rattle.cspf_rows.specs.declared.step.Step.TheVariants as step
 use Rattle.cspf_book.specs.declared.placement.Placement.{Placement}
 use Rattle.cspf_book.specs.declared.path.Passed.{Passed}
-use Rattle.cspf_book.specs.Placements.{passed_of, has_key, bandwidth_on, others, counted}
+use Rattle.cspf_book.specs.LinkFigures.{figures_at}
+use Rattle.cspf_book.specs.Placements.{passed_of, has_key, bandwidth_on, others, counted, placement_of}
 use Rattle.cspf_book.specs.Effective.{effective_link, effective}
 use Rattle.cspf_book.specs.BookState.{BookState, effective_beside, IsAnswerPlaced}
 use Rattle.cspf_book.proofs.Covered.{counted-others}
@@ -34,12 +34,14 @@ use Rattle.cspf_book.proofs.Figures.{figure-le, figure-le-left, free-effective_l
 use Rattle.cspf_book.proofs.KeyTests.{same_key_test}
 use Rattle.cspf_book_run.specs.declared.book_row.BookRow.{BookRow}
 use Rattle.cspf_book_run.specs.declared.book_row.BookRow.TheVariants as book_row
+use Rattle.cspf_book_run.specs.declared.book_row_error.BookRowError.{BookRowError}
+use Rattle.cspf_book_run.proofs.Looks.{Looks, shown_looks, left_looks, look_same}
 use Rattle.cspf_book_run.specs.BookRows.{book_row_of}
 use Rattle.cspf_book_run.specs.BookScript.{BookRunState, book_start, IsBookStepAnswered, IsBookRowAnswered}
 use Rattle.cspf_book_run.specs.BookScriptLaws.{IsBookInRange, RowsKeepRange}
 use Rattle.cspf_book_run.specs.BookStates.{IsReadable}
 use Rattle.cspf_book_run.proofs.BookRowLemmas.{readable_row}
-use Rattle.cspf_book_run.proofs.KeptBook.{IsStepInRange, row_in_range, read_row, kinds, one_more_in_range}
+use Rattle.cspf_book_run.proofs.KeptBook.{IsStepInRange, row_in_range, read_row, one_more_in_range}
 use Rattle.cspf_book_run.proofs.OverExact.{none_at_first}
 
 -- The numbers of a database's links are in the ranges of their types.
@@ -54,7 +56,7 @@ pub in_range_at_first : IsBookInRange book_start
 in_range_at_first = record {
   base = λ l is. absurd (none_at_first l is);
   changes = tt;
-  sums = λ k priority small. lit< tt;
+  sums = λ _ k priority small. lit< tt;
 }
 
 -- ---- a base after changes
@@ -139,8 +141,8 @@ others_small : (id : ℕ) (placements : List Placement) → AreSumsSmall placeme
 others_small id placements small k priority below = omega (arith, counted-others id placements k priority, small k priority below)
 
 placing_small : (old new : BookState) (q : Request) (hold : ℕ) (answer : Answer) → q.setup ≡ 7 → IsBestAnswer (effective_beside old q.id) q answer
-    → IsAnswerPlaced old q hold answer new → AreLinksInRange old.base → AreSumsSmall old.placements → (new.base ≡ old.base) × AreSumsSmall new.placements
-placing_small old new q hold (route walk) seven best is range small = (is.base, one_more)
+    → IsAnswerPlaced old q hold answer new → AreLinksInRange old.base → AreSumsSmall old.placements → AreSumsSmall new.placements
+placing_small old new q hold (route walk) seven best is range small = one_more
   where
     one_more : AreSumsSmall new.placements
     one_more k priority below =
@@ -153,55 +155,80 @@ placing_small old new q hold (route walk) seven best is range small = (is.base, 
         subst (λ (ps : List Placement). counted ps k priority < 2 ^ 64) (sym is.placements)
         (sum_small (nat_le p.hold priority) (has_key p.route k) p.request.bandwidth (counted rest k priority) (counted (rest ++ p ∷ []) k priority) room
         (others_small q.id old.placements small k priority below) (sum_by_push (bandwidth_on k priority) rest p))
-placing_small old new q hold other seven best is range small = (ap (λ (b : BookState). b.base) is, subst (λ (b : BookState). AreSumsSmall b.placements) (sym is) small)
+placing_small old new q hold other seven best is range small = subst (λ (b : BookState). AreSumsSmall b.placements) (sym is) small
+
+same_base : (old new : BookState) (q : Request) (hold : ℕ) (answer : Answer) → IsAnswerPlaced old q hold answer new → new.base ≡ old.base
+same_base old new q hold (route walk) is = is.base
+same_base old new q hold other is = ap (λ (b : BookState). b.base) is
 
 -- ---- rows
 
 -- A state is in range if the base, the open changes and the sums of counted bandwidth are in range.
-made : (t : BookRunState) → AreLinksInRange t.book.base → AllByRecursion IsChangeInRange t.changes → AreSumsSmall t.book.placements → IsBookInRange t
+made : (t : BookRunState) → AreLinksInRange t.book.base → AllByRecursion IsChangeInRange t.changes → (t.restored ≡ 0 → AreSumsSmall t.book.placements) → IsBookInRange t
 made t base changes sums = record { base = base; changes = changes; sums = sums }
 
 -- Let a row leave the book unchanged. If the open changes after the row are in range, the state
 -- stays in range. Open changes are changes since the last end row.
-same_book : (s t : BookRunState) → t.book ≡ s.book → IsBookInRange s → AllByRecursion IsChangeInRange t.changes → IsBookInRange t
-same_book s t book range changes =
-    made t (subst (λ (b : BookState). AreLinksInRange b.base) (sym book) range.base) changes (subst (λ (b : BookState). AreSumsSmall b.placements) (sym book) range.sums)
+same_book : (s t : BookRunState) → t.book ≡ s.book → t.restored ≡ s.restored → IsBookInRange s → AllByRecursion IsChangeInRange t.changes → IsBookInRange t
+same_book s t book restored range changes =
+    made t (subst (λ (b : BookState). AreLinksInRange b.base) (sym book) range.base) changes
+    (λ none. subst (λ (b : BookState). AreSumsSmall b.placements) (sym book) (range.sums (sym restored ∙ none)))
 
 -- If a row changes neither the book nor the open changes, the state stays in range.
-same_parts : (s t : BookRunState) → t.book ≡ s.book → t.changes ≡ s.changes → IsBookInRange s → IsBookInRange t
-same_parts s t book changes range = same_book s t book range (subst (AllByRecursion IsChangeInRange) (sym changes) range.changes)
+same_parts : (s t : BookRunState) → t.book ≡ s.book → t.restored ≡ s.restored → t.changes ≡ s.changes → IsBookInRange s → IsBookInRange t
+same_parts s t book restored changes range = same_book s t book restored range (subst (AllByRecursion IsChangeInRange) (sym changes) range.changes)
 
 step_in_range : (s t : BookRunState) (r : Step) (line : List ℕ) → IsStepInRange r → IsBookStepAnswered s r line t → IsBookInRange s → IsBookInRange t
 step_in_range s t (step.Change c) line here a range =
-    same_book s t (ap (λ (x : BookRunState). x.book) a.1) range
+    same_book s t (ap (λ (x : BookRunState). x.book) a.1) (ap (λ (x : BookRunState). x.restored) a.1) range
     (subst (AllByRecursion IsChangeInRange) (sym (ap (λ (x : BookRunState). x.changes) a.1)) (one_more_in_range s.changes c range.changes here))
 step_in_range s t (step.Ask q) line here a range =
-    same_parts s t (ap (λ (x : BookRunState). x.book) a.3) (ap (λ (x : BookRunState). x.changes) a.3) range
+    same_parts s t (ap (λ (x : BookRunState). x.book) a.3) (ap (λ (x : BookRunState). x.restored) a.3) (ap (λ (x : BookRunState). x.changes) a.3) range
 step_in_range s t (step.End number count) line here (inl (accepted, lines, after)) range =
     made t (subst AreLinksInRange (sym (ap (λ (x : BookRunState). x.book.base) after)) (changes_in_range s.book.base s.changes range.changes range.base))
     (subst (AllByRecursion IsChangeInRange) (sym (ap (λ (x : BookRunState). x.changes) after)) tt)
-    (subst AreSumsSmall (sym (ap (λ (x : BookRunState). x.book.placements) after)) range.sums)
+    (λ none. subst AreSumsSmall (sym (ap (λ (x : BookRunState). x.book.placements) after)) (range.sums (sym (ap (λ (x : BookRunState). x.restored) after) ∙ none)))
 step_in_range s t (step.End number count) line here (inr (why, kept, is, line_is, after)) range =
-    same_book s t (ap (λ (x : BookRunState). x.book) after) range (subst (AllByRecursion IsChangeInRange) (sym (ap (λ (x : BookRunState). x.changes) after)) tt)
+    same_book s t (ap (λ (x : BookRunState). x.book) after) (ap (λ (x : BookRunState). x.restored) after) range (subst (AllByRecursion IsChangeInRange) (sym (ap (λ (x : BookRunState). x.changes) after)) tt)
+
+-- A row that only looks keeps the state in range.
+looks : (s t : BookRunState) → Looks s t → IsBookInRange s → IsBookInRange t
+looks s t look range =
+    same_parts s t (look_same (λ (x : BookRunState). x.book) s t refl look) (look_same (λ (x : BookRunState). x.restored) s t refl look)
+    (look_same (λ (x : BookRunState). x.changes) s t refl look) range
 
 module _ (read : AreRowsRead) where
-  row_keeps : (place : ℕ) (s t : BookRunState) (fields : List (List ℕ)) (r : Result BookRow RowError) (line : List ℕ) → book_row_of fields ≡ r
+  row_keeps : (place : ℕ) (s t : BookRunState) (fields : List (List ℕ)) (r : Result BookRow BookRowError) (line : List ℕ) → book_row_of fields ≡ r
       → IsBookRowAnswered place s r line t → IsBookInRange s → IsBookInRange t
-  row_keeps place s t fields (Err e) line is a range = same_parts s t (ap (λ (x : BookRunState). x.book) a.1) (ap (λ (x : BookRunState). x.changes) a.1) range
+  row_keeps place s t fields (Err e) line is a range = same_parts s t (ap (λ (x : BookRunState). x.book) a.1) (ap (λ (x : BookRunState). x.restored) a.1) (ap (λ (x : BookRunState). x.changes) a.1) range
   row_keeps place s t fields (Ok (book_row.Base b)) line is a range =
-      step_in_range s t (step_of b) line (row_in_range fields b ((read fields b).0 (read_row fields (book_row.Base b) (kinds fields) is))) a range
+      step_in_range s t (step_of b) line (row_in_range fields b ((read fields b).0 (read_row fields (book_row.Base b) is))) a range
   row_keeps place s t fields (Ok (book_row.Place q hold)) line is (inl (x, after)) range =
       let readable : IsReadable (book_row.Place q hold) = rw is at (readable_row fields) in
-      let placed = placing_small s.book t.book q hold x.answer readable.0 x.best x.placed range.base range.sums in
-      made t (subst AreLinksInRange (sym placed.0) range.base) (subst (AllByRecursion IsChangeInRange) (sym (ap (λ (y : BookRunState). y.changes) after)) range.changes) placed.1
+      made t (subst AreLinksInRange (sym (same_base s.book t.book q hold x.answer x.placed)) range.base)
+      (subst (AllByRecursion IsChangeInRange) (sym (ap (λ (y : BookRunState). y.changes) after)) range.changes)
+      (λ none. placing_small s.book t.book q hold x.answer readable.0 x.best x.placed range.base (range.sums (sym (ap (λ (y : BookRunState). y.restored) after) ∙ none)))
   row_keeps place s t fields (Ok (book_row.Place q hold)) line is (inr (why, refused, line_is, after)) range =
-      same_parts s t (ap (λ (x : BookRunState). x.book) after) (ap (λ (x : BookRunState). x.changes) after) range
+      same_parts s t (ap (λ (x : BookRunState). x.book) after) (ap (λ (x : BookRunState). x.restored) after) (ap (λ (x : BookRunState). x.changes) after) range
   row_keeps place s t fields (Ok (book_row.Release id)) line is (inl (room, has, line_is, after)) range =
       made t (subst AreLinksInRange (sym (ap (λ (x : BookRunState). x.book.base) after)) range.base)
       (subst (AllByRecursion IsChangeInRange) (sym (ap (λ (x : BookRunState). x.changes) after)) range.changes)
-      (subst AreSumsSmall (sym (ap (λ (x : BookRunState). x.book.placements) after)) (others_small id s.book.placements range.sums))
+      (λ none. subst AreSumsSmall (sym (ap (λ (x : BookRunState). x.book.placements) after)) (others_small id s.book.placements (range.sums (sym (ap (λ (x : BookRunState). x.restored) after) ∙ none))))
   row_keeps place s t fields (Ok (book_row.Release id)) line is (inr (why, refused, line_is, after)) range =
-      same_parts s t (ap (λ (x : BookRunState). x.book) after) (ap (λ (x : BookRunState). x.changes) after) range
+      same_parts s t (ap (λ (x : BookRunState). x.book) after) (ap (λ (x : BookRunState). x.restored) after) (ap (λ (x : BookRunState). x.changes) after) range
+  row_keeps place s t fields (Ok (book_row.Held p)) line is (inl (room, may, line_is, after)) range =
+      let more : t.restored ≡ s.restored + 1 = ap (λ (x : BookRunState). x.restored) after in
+      made t (subst AreLinksInRange (sym (ap (λ (x : BookRunState). x.book.base) after)) range.base)
+      (subst (AllByRecursion IsChangeInRange) (sym (ap (λ (x : BookRunState). x.changes) after)) range.changes) (λ none. absurd (omega (arith, more, none)))
+  row_keeps place s t fields (Ok (book_row.Held p)) line is (inr (why, refused, line_is, after)) range =
+      same_parts s t (ap (λ (x : BookRunState). x.book) after) (ap (λ (x : BookRunState). x.restored) after) (ap (λ (x : BookRunState). x.changes) after) range
+  row_keeps place s t fields (Ok (book_row.Offer q hold)) line is (inl (x, after)) range =
+      same_parts s t (ap (λ (y : BookRunState). y.book) after) (ap (λ (y : BookRunState). y.restored) after) (ap (λ (y : BookRunState). y.changes) after) range
+  row_keeps place s t fields (Ok (book_row.Offer q hold)) line is (inr (why, refused, line_is, after)) range =
+      same_parts s t (ap (λ (x : BookRunState). x.book) after) (ap (λ (x : BookRunState). x.restored) after) (ap (λ (x : BookRunState). x.changes) after) range
+  row_keeps place s t fields (Ok (book_row.Show id)) line is a range = looks s t (shown_looks s t id (placement_of id s.book.placements) line a) range
+  row_keeps place s t fields (Ok (book_row.Left from local)) line is a range =
+      looks s t (left_looks s t (from, local) (figures_at s.book.base s.book.placements (from, local)) line a) range
 
   pub rows_keep_range : RowsKeepRange
   unfolding AreAnswered

@@ -1,12 +1,12 @@
 -- How the answers of the code make up the lines and the summary of a run of a book, and how such a
 -- run stops.
-use Rattle.std.proofs.Common.{◌≡◌, ◌==◌, ◌⊎◌, ℕ, suc, ◌+◌, ◌<◌, Bool, true, false, cond, List, [], ◌∷◌, ◌++◌, take, length, Option, Some, None, IfSome, Result, Ok, Err, inl, inr, refl, sym, ap, subst, ◌∙◌, append-nil, arith}
-use Rattle.std.proofs.KnownBytes.{Appends-nil, Appends-trans, Appends-kept}
+use Rattle.std.proofs.Common.{◌≡◌, ◌==◌, ℕ, suc, ◌+◌, ◌<◌, Bool, true, false, cond, List, [], ◌∷◌, ◌++◌, take, length, Option, Some, None, IfSome, Result, Ok, Err, inl, inr, refl, sym, ap, subst, ◌∙◌, append-nil, arith}
+use Rattle.std.proofs.KnownBytes.{Appends-nil, Appends-trans}
 use Rattle.std.proofs.lemmas.Bool.{cases_Bool}
 use Rattle.std.specs.Io.KnownBytes.{Appends}
 use Rattle.std.specs.declared.alloc.AllocError.{AllocError}
 use Rattle.cspf_rows.specs.Records.{rows_of}
-use Rattle.cspf_rows.specs.declared.row_error.RowError.{RowError}
+use Rattle.cspf_book_run.specs.declared.book_row_error.BookRowError.{BookRowError}
 use Rattle.cspf_stream.specs.RowAnswers.{AreAnswered}
 use Rattle.cspf_stream.specs.Runs.{IsPrefixAnswered, HasRun, FailsAtRow, IsRunStopped}
 use Rattle.cspf_stream.specs.Runs as run
@@ -24,12 +24,11 @@ use Rattle.cspf_book_run.specs.declared.book_rows.BookRows.{BookRows}
 use Rattle.cspf_book_run.specs.declared.keeper.Keeping.{Keeping}
 use Rattle.cspf_book_run.specs.BookRows.{book_row_of}
 use Rattle.cspf_book_run.specs.BookScript.{BookRunState, book_start, book_summary_of, IsBookRowAnswered}
-use Rattle.cspf_book_run.specs.BookOutput.{AreFirstBookRows, IsBookBegun, IsNextBookText, IsRefusalUnsaid, IsBookOutputAtError}
+use Rattle.cspf_book_run.specs.BookOutput.{AreFirstBookRows, IsBookBegun, IsNextBookText, IsBookOutputAtError}
 use Rattle.cspf_book_run.specs.BookStates.{KeepsBook, IsBookBefore, AreBookCounts}
 use Rattle.cspf_book_run.specs.Kept.{kept_of}
-use Rattle.cspf_book_run.specs.KeptRuns.{KeptRunState, kept_start, kept_run_answers, AreKeptRowsAnswered, IsRowCutOff, IsAnsweredStopped, IsBookRun, IsKeepFault}
+use Rattle.cspf_book_run.specs.KeptRuns.{KeptRunState, kept_start, kept_run_answers, AreKeptRowsAnswered, IsRowCutOff, IsAnsweredStopped, IsBookRun}
 use Rattle.cspf_book_run.specs.KeptStates.{kept_as, IsRowFailed, IsAnsweredDone, IsAnsweredLost, IsBookAnswer, IsBookAnswerLost, IsBookLast}
-use Rattle.cspf_book_run.proofs.BookSteps.{no_text}
 
 abbrev Rows : Type 0
 Rows = List (List (List ℕ))
@@ -49,7 +48,7 @@ no_text_at_all true = refl
 no_text_at_all false = refl
 
 -- A row that couldn't be read has no text for the writer `keep`.
-unread_text : (s t : BookRunState) (fields : List (List ℕ)) (e : RowError) → book_row_of fields ≡ Err e → no_bytes ≡ kept_of s fields t
+unread_text : (s t : BookRunState) (fields : List (List ℕ)) (e : BookRowError) → book_row_of fields ≡ Err e → no_bytes ≡ kept_of s fields t
 unread_text s t fields e read = rw read (no_text_at_all (t.book.version == s.book.version))
 
 module _ {K : Type 0} (contents : K → Option (List ℕ)) (place : ℕ) (s : KeptRunState) (fields : List (List ℕ)) where
@@ -61,13 +60,13 @@ module _ {K : Type 0} (contents : K → Option (List ℕ)) (place : ℕ) (s : Ke
     written : Appends (contents old.keep) (contents new.keep) more
     answered : kept_run_answers place s fields line (record { run = t; stopped = stopped; kept = s.kept ++ more })
 
-  as_read : (line : List ℕ) (t : BookRunState) (row : Result BookRow RowError) → book_row_of fields ≡ row → IsBookRowAnswered place s.run row line t
+  as_read : (line : List ℕ) (t : BookRunState) (row : Result BookRow BookRowError) → book_row_of fields ≡ row → IsBookRowAnswered place s.run row line t
       → IsBookRowAnswered place s.run (book_row_of fields) line t
-  as_read line t row read a = subst (λ (r : Result BookRow RowError). IsBookRowAnswered place s.run r line t) (sym read) a
+  as_read line t row read a = subst (λ (r : Result BookRow BookRowError). IsBookRowAnswered place s.run r line t) (sym read) a
 
-  stopped_as_read : (line : List ℕ) (t : BookRunState) (row : Result BookRow RowError) → book_row_of fields ≡ row → IsAnsweredStopped place s.run row line t
+  stopped_as_read : (line : List ℕ) (t : BookRunState) (row : Result BookRow BookRowError) → book_row_of fields ≡ row → IsAnsweredStopped place s.run row line t
       → IsAnsweredStopped place s.run (book_row_of fields) line t
-  stopped_as_read line t row read a = subst (λ (r : Result BookRow RowError). IsAnsweredStopped place s.run r line t) (sym read) a
+  stopped_as_read line t row read a = subst (λ (r : Result BookRow BookRowError). IsAnsweredStopped place s.run r line t) (sym read) a
 
   nothing_more : (line : List ℕ) (t : BookRunState) (old new : Keeping K) → new ≡ old → (stopped : Bool) → old.stopped ≡ stopped
       → kept_run_answers place s fields line (record { run = t; stopped = stopped; kept = s.kept ++ [] }) → IsRowSaid line t old new
@@ -102,7 +101,7 @@ module _ {K : Type 0} (contents : K → Option (List ℕ)) (place : ℕ) (s : Ke
     ap (λ (x : List ℕ). s.kept ++ take f.written x) (kept_same s.run f.next fields row read),
   )
 
-  said : (line : List ℕ) (t : BookRunState) (row : Result BookRow RowError) (old new : Keeping K) → book_row_of fields ≡ row → old.stopped ≡ s.stopped
+  said : (line : List ℕ) (t : BookRunState) (row : Result BookRow BookRowError) (old new : Keeping K) → book_row_of fields ≡ row → old.stopped ≡ s.stopped
       → IsAnsweredDone contents place s.run fields row line t old new → IsRowSaid line t old new
   said line t (Err e) old new read stands (a, same) = elim (cases_Bool s.stopped) [
     | inl stopped ↦ nothing_more line t old new same true (stands ∙ stopped) (inr (inr (stopped, refl, stopped_as_read line t (Err e) read a, append-nil s.kept)))
@@ -266,7 +265,7 @@ module _ {K : Type 0} (contents : K → Option (List ℕ)) (k : BookRows K) (fre
           Appends-trans (keep_of k) (keep_of b) (keep_of b') s.kept text at.written f.cut_off.front,
         )
 
-    lost_at_row : (s : KeptRunState) → IsBookAt (1 + length a.done) b s → AreFirstBookRows rows a.done a.rest a.lines s → (row : Result BookRow RowError) → book_row_of fields ≡ row
+    lost_at_row : (s : KeptRunState) → IsBookAt (1 + length a.done) b s → AreFirstBookRows rows a.done a.rest a.lines s → (row : Result BookRow BookRowError) → book_row_of fields ≡ row
         → IsAnsweredLost contents fields row b.rows b'.rows → IsHalted error.Memory (Some rows) old new (keep_of b')
     lost_at_row s at begins (Err e) read lost = same_keep lost
     lost_at_row s at begins (Ok row) read lost = elim (lost s.run at.keeps) [

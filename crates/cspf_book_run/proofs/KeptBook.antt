@@ -1,12 +1,11 @@
 -- A run over the texts of accepted rows ends with the same book as the run over all rows.
-use Rattle.std.proofs.Common.{◌≡◌, ◌==◌, ℕ, zero, suc, ◌+◌, ◌≤◌, ◌<◌, ◌^◌, ◌⊎◌, Bool, true, false, cond, List, [], ◌∷◌, ◌++◌, map, length, codes, slice_index, Result, Ok, Err, inl, inr, refl, sym, ap, subst, ◌∙◌, append_assoc, append-nil, eq-eqb, arith}
+use Rattle.std.proofs.Common.{◌≡◌, ◌==◌, ℕ, zero, suc, ◌+◌, ◌≤◌, ◌<◌, ◌^◌, Bool, true, false, cond, List, [], ◌∷◌, ◌++◌, map, length, codes, slice_index, Result, Ok, Err, inl, inr, refl, sym, ap, subst, ◌∙◌, append_assoc, append-nil, eq-eqb, arith}
 use Rattle.std.proofs.lemmas.Bool.{cases_Bool, eqb-true}
 use Rattle.std.proofs.lemmas.Grind.{flat_map-append}
 use Rattle.std.proofs.lemmas.List.{length-append, length-map}
 use Rattle.std.proofs.lemmas.Slice.Eq.{bytes_eq-Decides}
 use Rattle.std.specs.List.{flat_map, AllByRecursion}
 use Rattle.std.specs.Result.{result_map_both}
-use Rattle.std.specs.Str.{bytes_eq}
 use Rattle.csv.specs.Records.{field_at}
 use Rattle.csv.specs.Writing.{default_writer, row_text}
 use Rattle.cspf_addr.specs.MaskText.{SpellsMask}
@@ -20,7 +19,7 @@ use Rattle.cspf_rows.specs.BatchText.{change_fields, batch_records}
 use Rattle.cspf_rows.specs.FieldValues.{field, number_at}
 use Rattle.cspf_rows.specs.JournalLaws.{IsChangeInRange}
 use Rattle.cspf_rows.specs.Records.{rows_of}
-use Rattle.cspf_rows.specs.Rows.{ask_row_of, row_of}
+use Rattle.cspf_rows.specs.Rows.{ask_row_of, is_kind, row_of}
 use Rattle.cspf_rows.specs.Says.{AreRowsRead, Says, SaysPut}
 use Rattle.cspf_rows.specs.Written.{end_fields}
 use Rattle.cspf_rows.specs.declared.row.Row.{Row}
@@ -32,14 +31,21 @@ use Rattle.cspf_stream.specs.RowAnswers.{AreAnswered}
 use Rattle.cspf_rows.specs.Steps.{step_of}
 use Rattle.cspf_rows.specs.declared.step.Step.{Step}
 use Rattle.cspf_rows.specs.declared.step.Step.TheVariants as step
+use Rattle.cspf_book.specs.declared.path.Passed.{Passed}
+use Rattle.cspf_book.specs.declared.placement.Placement.{Placement}
+use Rattle.cspf_book.specs.LinkFigures.{figures_at}
+use Rattle.cspf_book.specs.Placements.{placement_of}
 use Rattle.cspf_book.specs.BookState.{BookState, IsAnswerPlaced}
 use Rattle.cspf_book_run.specs.declared.book_row.BookRow.{BookRow}
 use Rattle.cspf_book_run.specs.declared.book_row.BookRow.TheVariants as book_row
-use Rattle.cspf_book_run.specs.BookRows.{at_lowest_setup, placed_as_asked, place_row_of, release_row_of, book_row_of}
+use Rattle.cspf_book_run.specs.declared.book_row_error.BookRowError.{BookRowError}
+use Rattle.cspf_book_run.specs.declared.book_row_error.BookRowError.TheVariants as refused
+use Rattle.cspf_book_run.specs.BookRows.{held_as_asked, held_request_of, held_placement, held_route_of, held_as_read, id_row_of, left_key_of, place_row_of, release_row_of, held_row_of, offer_row_of, show_row_of, left_row_of, other_row_of, book_row_of}
 use Rattle.cspf_book_run.specs.BookScript.{BookRunState, book_start, book_answers, open_base_batch, after_refusal, after_open_change, after_answer, after_base_batch, IsBaseAccepted, AreBaseLines, IsPlaceAnswered, IsBookStepAnswered, IsBookRowAnswered}
 use Rattle.cspf_book_run.specs.Kept.{kept_answers, kept_of, text_of_row, text_of_step}
 use Rattle.cspf_book_run.specs.KeptLaws.{KeptIsTheBook}
 use Rattle.cspf_book_run.proofs.BookSteps.{another_version}
+use Rattle.cspf_book_run.proofs.Looks.{Looks, shown_looks, left_looks, look_same}
 use Rattle.cspf_book_run.proofs.KeptTexts.{StartsPlain, IsPlainRecord, kept_cut, change_plain, end_plain, lines_rows, rows_start}
 
 -- ---- the ranges of the numbers in a row
@@ -84,21 +90,14 @@ row_in_range fields (row.Ask q) s = tt
 
 -- ---- the kinds of rows
 
--- The first field of a record decides which kind of row the book reads.
-abbrev pub IsOfKind : List (List ℕ) → Type 0
-IsOfKind fields =
-    ((field fields 1 ≡ codes "place") × (book_row_of fields ≡ place_row_of fields))
-    ⊎ (((field fields 1 ≡ codes "release") × (book_row_of fields ≡ release_row_of fields)) ⊎ (book_row_of fields ≡ result_map_both book_row.Base (λ e. e) (row_of fields)))
-
-pub kinds : (fields : List (List ℕ)) → IsOfKind fields
-unfolding book_row_of
-kinds fields = elim (cases_Bool (bytes_eq (field fields 1) (codes "place"))) [
-  | inl place ↦ inl ((bytes_eq-Decides (field fields 1) (codes "place")).0 place, rw place refl)
-  | inr other ↦ elim (cases_Bool (bytes_eq (field fields 1) (codes "release"))) [
-    | inl release ↦ inr (inl ((bytes_eq-Decides (field fields 1) (codes "release")).0 release, rw (other, release) refl))
-    | inr none ↦ inr (inr (rw (other, none) refl))
-  ]
-]
+-- What holds of a record that is read as this row. `row_of` reads a row of the base as the same row.
+-- The record of a row that may be accepted begins with a plain word (`StartsPlain`).
+abbrev pub IsReadAs : List (List ℕ) → BookRow → Type 0
+IsReadAs fields (book_row.Base b) = row_of fields ≡ Ok b
+IsReadAs fields (book_row.Place q hold) = StartsPlain fields
+IsReadAs fields (book_row.Release id) = StartsPlain fields
+IsReadAs fields (book_row.Held p) = StartsPlain fields
+IsReadAs fields other = Unit {0}
 
 counted : (b : Bool) (x : Result BookRow RowError) (r : BookRow) → cond b x (Err error.Fields) ≡ Ok r → (b ≡ true) × (x ≡ Ok r)
 counted true x r is = (refl, is)
@@ -108,34 +107,41 @@ counted false x r is = absurd (cc)
 abbrev read_as : BookRow → Result BookRow RowError
 read_as r = Ok r
 
+abbrev read_whole : BookRow → Result BookRow BookRowError
+read_whole r = Ok r
+
 ok_same : (x y : BookRow) → read_as x ≡ read_as y → x ≡ y
 ok_same x y e = cc
 
-of_asked : (x : Result Row RowError) (r : BookRow) → placed_as_asked x ≡ Ok r → (q : Request) × (hold : ℕ) × (r ≡ book_row.Place q hold)
-of_asked (Ok (row.Ask q)) r is = (at_lowest_setup q, q.setup, sym (ok_same (book_row.Place (at_lowest_setup q) q.setup) r is))
-of_asked other r is = absurd (cc)
+ok_whole : (x y : BookRow) → read_whole x ≡ read_whole y → x ≡ y
+ok_whole x y e = cc
 
-of_id : (x : Result ℕ RowError) (r : BookRow) → result_map_both book_row.Release (λ e. e) x ≡ Ok r → (id : ℕ) × (r ≡ book_row.Release id)
-of_id (Ok id) r is = (id, sym (ok_same (book_row.Release id) r is))
-of_id (Err e) r is = absurd (cc)
+of_made : {A : Type 0} (make : A → BookRow) (x : Result A RowError) (r : BookRow) → result_map_both make (λ e. e) x ≡ Ok r → (a : A) × (r ≡ make a) × (x ≡ Ok a)
+of_made make (Ok a) r is = (a, sym (ok_same (make a) r is), refl)
+of_made make (Err e) r is = absurd (cc)
 
-of_base : (x : Result Row RowError) (r : BookRow) → result_map_both book_row.Base (λ e. e) x ≡ Ok r → (b : Row) × (r ≡ book_row.Base b) × (x ≡ Ok b)
-of_base (Ok b) r is = (b, sym (ok_same (book_row.Base b) r is), refl)
-of_base (Err e) r is = absurd (cc)
+-- A row of a request has 10 fields. A row of an id has 2 fields.
+from_asked : (make : Request → ℕ → BookRow) (fields : List (List ℕ)) (r : BookRow) → result_map_both (λ (p : Request × ℕ). make p.0 p.1) (λ e. e) (held_request_of 10 fields) ≡ Ok r
+    → (length fields ≡ 10) × (p : Request × ℕ) × (r ≡ make p.0 p.1)
+from_asked make fields r is =
+    let made = of_made (λ (p : Request × ℕ). make p.0 p.1) (held_request_of 10 fields) r is in
+    (ten_fields (length fields == 10) (held_as_asked (ask_row_of fields)) made.0 made.2 refl, made.0, made.1)
+  where
+    ten_fields : (b : Bool) (x : Result (Request × ℕ) RowError) (p : Request × ℕ) → cond b x (Err error.Fields) ≡ Ok p → (length fields == 10) ≡ b → length fields ≡ 10
+    ten_fields true x p is ten = eqb-true (length fields) 10 ten
+    ten_fields false x p is ten = absurd (cc)
 
--- A `place` row has 10 fields, which are read as a request and a holding priority. The next lemma
--- is for a `release` row, which has 2 fields and is read as an id.
-from_place : (fields : List (List ℕ)) (r : BookRow) → place_row_of fields ≡ Ok r → (q : Request) × (hold : ℕ) × (r ≡ book_row.Place q hold) × (length fields ≡ 10)
-from_place fields r is =
-    let n = counted (length fields == 10) (placed_as_asked (ask_row_of fields)) r is in
-    let made = of_asked (ask_row_of fields) r n.1 in
-    (made.0, made.1, made.2, eqb-true (length fields) 10 n.0)
+from_id : (make : ℕ → BookRow) (fields : List (List ℕ)) (r : BookRow) → id_row_of make fields ≡ Ok r → (length fields ≡ 2) × (id : ℕ) × (r ≡ make id)
+from_id make fields r is =
+    let n = counted (length fields == 2) (result_map_both make (λ e. e) (number_at fields 2)) r is in
+    let made = of_made make (number_at fields 2) r n.1 in
+    (eqb-true (length fields) 2 n.0, made.0, made.1)
 
-from_release : (fields : List (List ℕ)) (r : BookRow) → release_row_of fields ≡ Ok r → (id : ℕ) × (r ≡ book_row.Release id) × (length fields ≡ 2)
-from_release fields r is =
-    let n = counted (length fields == 2) (result_map_both book_row.Release (λ e. e) (number_at fields 2)) r is in
-    let made = of_id (number_at fields 2) r n.1 in
-    (made.0, made.1, eqb-true (length fields) 2 n.0)
+from_key : (fields : List (List ℕ)) (r : BookRow) → left_row_of fields ≡ Ok r → (k : ℕ × ℕ) × (r ≡ book_row.Left k.0 k.1)
+from_key fields r is =
+    let n = counted (length fields == 3) (result_map_both (λ (k : ℕ × ℕ). book_row.Left k.0 k.1) (λ e. e) (left_key_of fields)) r is in
+    let made = of_made (λ (k : ℕ × ℕ). book_row.Left k.0 k.1) (left_key_of fields) r n.1 in
+    (made.0, made.1)
 
 -- A record with at least two fields is a list of its first field, its second field and the other
 -- fields.
@@ -144,24 +150,82 @@ unfolding field_at
 word_first (x ∷ y ∷ ys) word two is = (y, ys, ap (λ w. w ∷ y ∷ ys) is)
 word_first other word two is = absurd (omega arith)
 
--- `row_of` reads a row of the base as the same row. The record of each other row begins with a plain
--- word (`StartsPlain`).
-abbrev pub IsReadAs : List (List ℕ) → BookRow → Type 0
-IsReadAs fields (book_row.Base b) = row_of fields ≡ Ok b
-IsReadAs fields other = StartsPlain fields
+-- ---- `held` rows
 
-pub read_row : (fields : List (List ℕ)) (r : BookRow) → IsOfKind fields → book_row_of fields ≡ Ok r → IsReadAs fields r
-read_row fields r (inl place) is =
-    let made = from_place fields r (sym place.1 ∙ is) in
-    let w = word_first fields (codes "place") (omega (arith, made.3)) place.0 in
+of_route : (q : Request) (x : Result (List Passed) BookRowError) (r : BookRow) → result_map_both (λ path. book_row.Held (held_placement q path)) (λ e. e) x ≡ Ok r → (p : Placement) × (r ≡ book_row.Held p)
+of_route q (Ok path) r is = (held_placement q path, sym (ok_whole (book_row.Held (held_placement q path)) r is))
+of_route q (Err e) r is = absurd (cc)
+
+-- A `held` row has 11 fields.
+of_held : (fields : List (List ℕ)) (b : Bool) (x : Result Row RowError) (r : BookRow) → held_as_read fields (cond b x (Err error.Fields)) ≡ Ok r → (b ≡ true) × (p : Placement) × (r ≡ book_row.Held p)
+of_held fields true (Ok (row.Ask q)) r is = let made = of_route q (held_route_of q (field fields 11)) r is in (refl, made.0, made.1)
+of_held fields true (Ok other) r is = absurd (cc)
+of_held fields true (Err e) r is = absurd (cc)
+of_held fields false x r is = absurd (cc)
+
+read_held : (fields : List (List ℕ)) (r : BookRow) → field fields 1 ≡ codes "held" → held_row_of fields ≡ Ok r → IsReadAs fields r
+read_held fields r word is =
+    let made = of_held fields (length fields == 11) (ask_row_of fields) r is in
+    let w = word_first fields (codes "held") (omega (arith, eqb-true (length fields) 11 made.0)) word in
+    subst (IsReadAs fields) (sym made.2) (record { a = 104; b = 101; c = 108; word = 100 ∷ []; second = w.0; others = w.1; is = w.2; no_mark = refl; plain = refl })
+
+-- ---- other rows
+
+read_place : (fields : List (List ℕ)) (r : BookRow) → field fields 1 ≡ codes "place" → place_row_of fields ≡ Ok r → IsReadAs fields r
+read_place fields r word is =
+    let made = from_asked book_row.Place fields r is in
+    let w = word_first fields (codes "place") (omega (arith, made.0)) word in
     subst (IsReadAs fields) (sym made.2) (record { a = 112; b = 108; c = 97; word = 99 ∷ 101 ∷ []; second = w.0; others = w.1; is = w.2; no_mark = refl; plain = refl })
-read_row fields r (inr (inl release)) is =
-    let made = from_release fields r (sym release.1 ∙ is) in
-    let w = word_first fields (codes "release") (omega (arith, made.2)) release.0 in
-    subst (IsReadAs fields) (sym made.1) (record { a = 114; b = 101; c = 108; word = 101 ∷ 97 ∷ 115 ∷ 101 ∷ []; second = w.0; others = w.1; is = w.2; no_mark = refl; plain = refl })
-read_row fields r (inr (inr base)) is =
-    let made = of_base (row_of fields) r (sym base ∙ is) in
-    subst (IsReadAs fields) (sym made.1) made.2
+
+read_release : (fields : List (List ℕ)) (r : BookRow) → field fields 1 ≡ codes "release" → release_row_of fields ≡ Ok r → IsReadAs fields r
+read_release fields r word is =
+    let made = from_id book_row.Release fields r is in
+    let w = word_first fields (codes "release") (omega (arith, made.0)) word in
+    subst (IsReadAs fields) (sym made.2) (record { a = 114; b = 101; c = 108; word = 101 ∷ 97 ∷ 115 ∷ 101 ∷ []; second = w.0; others = w.1; is = w.2; no_mark = refl; plain = refl })
+
+read_offer : (fields : List (List ℕ)) (r : BookRow) → offer_row_of fields ≡ Ok r → IsReadAs fields r
+read_offer fields r is = let made = from_asked book_row.Offer fields r is in subst (IsReadAs fields) (sym made.2) tt
+
+read_show : (fields : List (List ℕ)) (r : BookRow) → show_row_of fields ≡ Ok r → IsReadAs fields r
+read_show fields r is = let made = from_id book_row.Show fields r is in subst (IsReadAs fields) (sym made.2) tt
+
+read_left : (fields : List (List ℕ)) (r : BookRow) → left_row_of fields ≡ Ok r → IsReadAs fields r
+read_left fields r is = let made = from_key fields r is in subst (IsReadAs fields) (sym made.1) tt
+
+read_base : (fields : List (List ℕ)) (r : BookRow) → result_map_both book_row.Base (λ e. e) (row_of fields) ≡ Ok r → IsReadAs fields r
+read_base fields r is = let made = of_made book_row.Base (row_of fields) r is in subst (IsReadAs fields) (sym made.1) made.2
+
+of_kind : (fields : List (List ℕ)) (word : List ℕ) → is_kind fields word ≡ true → field fields 1 ≡ word
+of_kind fields word is = (bytes_eq-Decides (field fields 1) word).0 is
+
+read_other : (fields : List (List ℕ)) (r : BookRow) → other_row_of fields ≡ Ok r → IsReadAs fields r
+read_other fields r is = elim (cases_Bool (is_kind fields (codes "place"))) [
+  | inl place ↦ read_place fields r (of_kind fields (codes "place") place) (rw place at is)
+  | inr a ↦ elim (cases_Bool (is_kind fields (codes "release"))) [
+    | inl release ↦ read_release fields r (of_kind fields (codes "release") release) (rw (a, release) at is)
+    | inr b ↦ elim (cases_Bool (is_kind fields (codes "offer"))) [
+      | inl offer ↦ read_offer fields r (rw (a, b, offer) at is)
+      | inr c ↦ elim (cases_Bool (is_kind fields (codes "show"))) [
+        | inl show ↦ read_show fields r (rw (a, b, c, show) at is)
+        | inr d ↦ elim (cases_Bool (is_kind fields (codes "left"))) [
+          | inl left ↦ read_left fields r (rw (a, b, c, d, left) at is)
+          | inr none ↦ read_base fields r (rw (a, b, c, d, none) at is)
+        ]
+      ]
+    ]
+  ]
+]
+
+of_other : (x : Result BookRow RowError) (r : BookRow) → result_map_both (λ (y : BookRow). y) refused.Row x ≡ Ok r → x ≡ Ok r
+of_other (Ok y) r is = ap read_as (ok_whole y r is)
+of_other (Err e) r is = absurd (cc)
+
+pub read_row : (fields : List (List ℕ)) (r : BookRow) → book_row_of fields ≡ Ok r → IsReadAs fields r
+unfolding book_row_of
+read_row fields r is = elim (cases_Bool (is_kind fields (codes "held"))) [
+  | inl held ↦ read_held fields r (of_kind fields (codes "held") held) (rw held at is)
+  | inr other ↦ read_other fields r (of_other (other_row_of fields) r (rw other at is))
+]
 
 -- ---- rows that are answered one after the other
 
@@ -208,7 +272,7 @@ module _ (laws : AreRowsReadBack) where
   -- Take the end row of an accepted batch. A run over the texts of accepted rows answers it with
   -- the same lines as the run that wrote these texts.
   end_taken : (p : ℕ) (s : BookRunState) (number count : ℕ) (line : List ℕ) → number < 2 ^ 32 → length s.changes < 2 ^ 32 → IsBaseAccepted s number count → AreBaseLines s number line
-      → (answers : ℕ) → let from : BookRunState = record { book = s.book; batches = s.batches; changes = s.changes; answers = answers; refused = 0 } in
+      → (answers : ℕ) → let from : BookRunState = record { book = s.book; batches = s.batches; restored = s.restored; changes = s.changes; answers = answers; refused = 0 } in
       book_answers p from (end_fields number (length s.changes)) line (after_base_batch from)
   unfolding book_row_of field_at
   end_taken p s number count line small few accepted lines answers =
@@ -222,9 +286,11 @@ module _ (laws : AreRowsReadBack) where
 
 -- ---- the texts of accepted rows
 
--- the state of a run over the texts of accepted rows, between the texts of two rows
-abbrev bare : BookState → ℕ → ℕ → BookRunState
-bare book batches answers = record { book = book; batches = batches; changes = []; answers = answers; refused = 0 }
+-- The state of a run over the texts of accepted rows, between the texts of two rows. It has the book
+-- of the state `s` of the run that wrote these texts, and as many base batches and restored
+-- placements.
+abbrev bare : BookRunState → ℕ → BookRunState
+bare s answers = record { book = s.book; batches = s.batches; restored = s.restored; changes = []; answers = answers; refused = 0 }
 
 -- Let n rows lead from the state `s` to the state `t`, and let `text` have the texts of their
 -- accepted rows. Then `text` is the text of some records, and a run over these records leads from
@@ -236,32 +302,41 @@ record Remakes (n : ℕ) (s t : BookRunState) (text : List ℕ) : Type 0 where
   is : text ≡ flat_map (row_text default_writer) records
   plain : AllByRecursion StartsPlain records
   few : length records + length t.changes ≤ length s.changes + n
-  runs : (a : ℕ) → (b : ℕ) × (lines : List ℕ) × ((p : ℕ) → AreAnswered book_answers p (bare s.book s.batches a) records lines (bare t.book t.batches b))
+  runs : (a : ℕ) → (b : ℕ) × (lines : List ℕ) × ((p : ℕ) → AreAnswered book_answers p (bare s a) records lines (bare t b))
 
-bare_same : (s t : BookRunState) (a : ℕ) → t.book ≡ s.book → t.batches ≡ s.batches → bare t.book t.batches a ≡ bare s.book s.batches a
-bare_same s t a book batches = ap (λ (b : BookState). bare b t.batches a) book ∙ ap (λ (n : ℕ). bare s.book n a) batches
+-- The book and both counts are unchanged.
+abbrev pub SameBook : BookRunState → BookRunState → Type 0
+SameBook s t = (t.book ≡ s.book) × (t.batches ≡ s.batches) × (t.restored ≡ s.restored)
 
-nothing_kept : (s t : BookRunState) (text : List ℕ) → t.book ≡ s.book → t.batches ≡ s.batches → length t.changes ≤ length s.changes + 1
+-- the state of a run over the texts of accepted rows that has this book and these counts
+abbrev bare_of : BookState → ℕ → ℕ → ℕ → BookRunState
+bare_of book batches restored answers = record { book = book; batches = batches; restored = restored; changes = []; answers = answers; refused = 0 }
+
+bare_same : (s t : BookRunState) (a : ℕ) → SameBook s t → bare t a ≡ bare s a
+bare_same s t a (book, batches, restored) =
+    ap (λ (b : BookState). bare_of b t.batches t.restored a) book ∙ ap (λ (n : ℕ). bare_of s.book n t.restored a) batches ∙ ap (λ (n : ℕ). bare_of s.book s.batches n a) restored
+
+nothing_kept : (s t : BookRunState) (text : List ℕ) → SameBook s t → length t.changes ≤ length s.changes + 1
     → Remakes 1 s t (cond (t.book.version == s.book.version) [] text)
-nothing_kept s t text book batches few = record {
+nothing_kept s t text same few = record {
   records = [];
-  is = rw (eq-eqb t.book.version s.book.version (ap (λ (b : BookState). b.version) book)) refl;
+  is = rw (eq-eqb t.book.version s.book.version (ap (λ (b : BookState). b.version) same.0)) refl;
   plain = tt;
   few = omega (arith, few);
-  runs = λ a. (a, [], λ p. none_answered p (bare s.book s.batches a) (bare t.book t.batches a) (bare_same s t a book batches));
+  runs = λ a. (a, [], λ p. none_answered p (bare s a) (bare t a) (bare_same s t a same));
 }
 
 -- Let a row make a new version of the book, and let its text for the writer `keep` be the text of
 -- the row itself. If a run over just this row leads to the same book, `Remakes` holds for this row.
 row_kept : (s t : BookRunState) (fields : List (List ℕ)) (line : List ℕ) (more : ℕ → ℕ) → t.book.version ≡ s.book.version + 1 → length t.changes ≤ length s.changes → StartsPlain fields
-    → ((p a : ℕ) → book_answers p (bare s.book s.batches a) fields line (bare t.book t.batches (more a)))
+    → ((p a : ℕ) → book_answers p (bare s a) fields line (bare t (more a)))
     → Remakes 1 s t (cond (t.book.version == s.book.version) [] (row_text default_writer fields))
 row_kept s t fields line more rises few starts answered = record {
   records = fields ∷ [];
   is = rw (another_version s.book.version t.book.version rises) (sym (append-nil (row_text default_writer fields)));
   plain = (starts, tt);
   few = omega (arith, few);
-  runs = λ a. (more a, line, λ p. one_answered p (bare s.book s.batches a) (bare t.book t.batches (more a)) fields line (answered p a));
+  runs = λ a. (more a, line, λ p. one_answered p (bare s a) (bare t (more a)) fields line (answered p a));
 }
 
 -- The numbers of the changes since the last end row are in the ranges of their types.
@@ -279,7 +354,17 @@ same_changes s t same range = subst (AllByRecursion IsChangeInRange) (sym same) 
 refused_remakes : (s t : BookRunState) (text : List ℕ) → AreOpenInRange s → t ≡ after_refusal s → Remakes 1 s t (cond (t.book.version == s.book.version) [] text) × AreOpenInRange t
 refused_remakes s t text range after =
     let opens = ap (λ (x : BookRunState). x.changes) after in (
-      nothing_kept s t text (ap (λ (x : BookRunState). x.book) after) (ap (λ (x : BookRunState). x.batches) after) (rw opens (omega arith)),
+      nothing_kept s t text (ap (λ (x : BookRunState). x.book) after, ap (λ (x : BookRunState). x.batches) after, ap (λ (x : BookRunState). x.restored) after) (rw opens (omega arith)),
+      same_changes s t opens range,
+    )
+
+-- A row that only looks has no text for the writer `keep`, and leaves the book unchanged.
+looked_remakes : (s t : BookRunState) (text : List ℕ) → AreOpenInRange s → Looks s t → Remakes 1 s t (cond (t.book.version == s.book.version) [] text) × AreOpenInRange t
+looked_remakes s t text range look =
+    let opens = look_same (λ (x : BookRunState). x.changes) s t refl look in (
+      nothing_kept s t text
+          (look_same (λ (x : BookRunState). x.book) s t refl look, look_same (λ (x : BookRunState). x.batches) s t refl look, look_same (λ (x : BookRunState). x.restored) s t refl look)
+          (rw opens (omega arith)),
       same_changes s t opens range,
     )
 
@@ -300,12 +385,12 @@ module _ (read : AreRowsRead) (laws : AreRowsReadBack) where
           a,
           line,
           λ p.
-              let from : BookRunState = record { book = s.book; batches = s.batches; changes = s.changes; answers = a; refused = 0 } in
+              let from : BookRunState = record { book = s.book; batches = s.batches; restored = s.restored; changes = s.changes; answers = a; refused = 0 } in
               let ended : (q : ℕ) → AreAnswered book_answers q from (end_fields number (length s.changes) ∷ []) line (after_base_batch from) =
               λ q. one_answered q from (after_base_batch from) (end_fields number (length s.changes)) line (end_taken laws q s number count line small short accepted lines a) in
-              subst (λ (x : BookRunState). AreAnswered book_answers p (bare s.book s.batches a) (batch_records (open_base_batch s number)) line (bare x.book x.batches a)) (sym after)
-              (append_answered (map change_fields s.changes) (end_fields number (length s.changes) ∷ []) p (bare s.book s.batches a) from (after_base_batch from) [] line
-              (changes_taken laws s.changes p (bare s.book s.batches a) range) ended),
+              subst (λ (x : BookRunState). AreAnswered book_answers p (bare s a) (batch_records (open_base_batch s number)) line (bare x a)) (sym after)
+              (append_answered (map change_fields s.changes) (end_fields number (length s.changes) ∷ []) p (bare s a) from (after_base_batch from) [] line
+              (changes_taken laws s.changes p (bare s a) range) ended),
         );
       }
 
@@ -313,12 +398,12 @@ module _ (read : AreRowsRead) (laws : AreRowsReadBack) where
       → Remakes 1 s t (cond (t.book.version == s.book.version) [] (text_of_step s r)) × AreOpenInRange t
   step_remakes s t (step.Change c) line range here a =
       let opens = ap (λ (x : BookRunState). x.changes) a.1 in (
-        nothing_kept s t [] (ap (λ (x : BookRunState). x.book) a.1) (ap (λ (x : BookRunState). x.batches) a.1) (rw opens (simp length-append (omega arith))),
+        nothing_kept s t [] (ap (λ (x : BookRunState). x.book) a.1, ap (λ (x : BookRunState). x.batches) a.1, ap (λ (x : BookRunState). x.restored) a.1) (rw opens (simp length-append (omega arith))),
         subst (AllByRecursion IsChangeInRange) (sym opens) (one_more_in_range s.changes c range here),
       )
   step_remakes s t (step.Ask q) line range here a =
       let opens = ap (λ (x : BookRunState). x.changes) a.3 in (
-        nothing_kept s t [] (ap (λ (x : BookRunState). x.book) a.3) (ap (λ (x : BookRunState). x.batches) a.3) (rw opens (omega arith)),
+        nothing_kept s t [] (ap (λ (x : BookRunState). x.book) a.3, ap (λ (x : BookRunState). x.batches) a.3, ap (λ (x : BookRunState). x.restored) a.3) (rw opens (omega arith)),
         same_changes s t opens range,
       )
   step_remakes s t (step.End number count) line range here (inl (accepted, lines, after)) = (
@@ -327,7 +412,7 @@ module _ (read : AreRowsRead) (laws : AreRowsReadBack) where
   )
   step_remakes s t (step.End number count) line range here (inr (why, kept, is, line_is, after)) =
       let opens = ap (λ (x : BookRunState). x.changes) after in (
-        nothing_kept s t (text_of_step s (step.End number count)) (ap (λ (x : BookRunState). x.book) after) (ap (λ (x : BookRunState). x.batches) after) (rw opens (omega arith)),
+        nothing_kept s t (text_of_step s (step.End number count)) (ap (λ (x : BookRunState). x.book) after, ap (λ (x : BookRunState). x.batches) after, ap (λ (x : BookRunState). x.restored) after) (rw opens (omega arith)),
         subst (AllByRecursion IsChangeInRange) (sym opens) tt,
       )
 
@@ -336,20 +421,20 @@ module _ (read : AreRowsRead) (laws : AreRowsReadBack) where
   placed_remakes : (s t : BookRunState) (fields : List (List ℕ)) (q : Request) (hold : ℕ) (line : List ℕ) (x : IsPlaceAnswered s q hold line t.book) (answer : Answer) → IsAnswerPlaced s.book q hold answer t.book
       → t ≡ after_answer s t.book → book_row_of fields ≡ Ok (book_row.Place q hold) → Remakes 1 s t (cond (t.book.version == s.book.version) [] (row_text default_writer fields))
   placed_remakes s t fields q hold line x (route walk) placed after is =
-      row_kept s t fields line (λ a. a + 1) placed.version (rw (ap (λ (y : BookRunState). y.changes) after) (omega arith)) (read_row fields (book_row.Place q hold) (kinds fields) is) (λ p a.
-      subst (λ (r : Result BookRow RowError). IsBookRowAnswered p (bare s.book s.batches a) r line (bare t.book t.batches (a + 1))) (sym is)
+      row_kept s t fields line (λ a. a + 1) placed.version (rw (ap (λ (y : BookRunState). y.changes) after) (omega arith)) (read_row fields (book_row.Place q hold) is) (λ p a.
+      subst (λ (r : Result BookRow BookRowError). IsBookRowAnswered p (bare s a) r line (bare t (a + 1))) (sym is)
       (inl (
         record { room = x.room; few = x.few; answer = x.answer; best = x.best; placed = x.placed; reply = x.reply },
-        ap (λ (n : ℕ). bare t.book n (a + 1)) (ap (λ (y : BookRunState). y.batches) after),
+        ap (λ (y : BookRunState). bare_of t.book y.batches y.restored (a + 1)) after,
       )))
   placed_remakes s t fields q hold line x other placed after is =
-      nothing_kept s t (row_text default_writer fields) placed (ap (λ (y : BookRunState). y.batches) after) (rw (ap (λ (y : BookRunState). y.changes) after) (omega arith))
+      nothing_kept s t (row_text default_writer fields) (placed, ap (λ (y : BookRunState). y.batches) after, ap (λ (y : BookRunState). y.restored) after) (rw (ap (λ (y : BookRunState). y.changes) after) (omega arith))
 
-  row_remakes : (p : ℕ) (s t : BookRunState) (fields : List (List ℕ)) (r : Result BookRow RowError) (line : List ℕ) → AreOpenInRange s → book_row_of fields ≡ r → IsBookRowAnswered p s r line t
+  row_remakes : (p : ℕ) (s t : BookRunState) (fields : List (List ℕ)) (r : Result BookRow BookRowError) (line : List ℕ) → AreOpenInRange s → book_row_of fields ≡ r → IsBookRowAnswered p s r line t
       → Remakes 1 s t (cond (t.book.version == s.book.version) [] (text_of_row s fields r)) × AreOpenInRange t
   row_remakes p s t fields (Err e) line range is a = refused_remakes s t [] range a.1
   row_remakes p s t fields (Ok (book_row.Base b)) line range is a =
-      step_remakes s t (step_of b) line range (row_in_range fields b ((read fields b).0 (read_row fields (book_row.Base b) (kinds fields) is))) a
+      step_remakes s t (step_of b) line range (row_in_range fields b ((read fields b).0 (read_row fields (book_row.Base b) is))) a
   row_remakes p s t fields (Ok (book_row.Place q hold)) line range is (inl (x, after)) = (
     placed_remakes s t fields q hold line x x.answer x.placed after is,
     same_changes s t (ap (λ (y : BookRunState). y.changes) after) range,
@@ -358,13 +443,33 @@ module _ (read : AreRowsRead) (laws : AreRowsReadBack) where
       refused_remakes s t (row_text default_writer fields) range after
   row_remakes p s t fields (Ok (book_row.Release id)) line range is (inl (room, has, line_is, after)) =
       let opens = ap (λ (x : BookRunState). x.changes) after in (
-        row_kept s t fields line (λ a. a) (ap (λ (x : BookRunState). x.book.version) after) (rw opens (omega arith)) (read_row fields (book_row.Release id) (kinds fields) is) (λ q a.
-            subst (λ (r : Result BookRow RowError). IsBookRowAnswered q (bare s.book s.batches a) r line (bare t.book t.batches a)) (sym is)
-            (inl (room, has, line_is, ap (λ (x : BookRunState). bare x.book x.batches a) after))),
+        row_kept s t fields line (λ a. a) (ap (λ (x : BookRunState). x.book.version) after) (rw opens (omega arith)) (read_row fields (book_row.Release id) is) (λ q a.
+            subst (λ (r : Result BookRow BookRowError). IsBookRowAnswered q (bare s a) r line (bare t a)) (sym is)
+            (inl (room, has, line_is, ap (λ (x : BookRunState). bare x a) after))),
         same_changes s t opens range,
       )
   row_remakes p s t fields (Ok (book_row.Release id)) line range is (inr (why, refused, line_is, after)) =
       refused_remakes s t (row_text default_writer fields) range after
+  row_remakes p s t fields (Ok (book_row.Held q)) line range is (inl (room, may, line_is, after)) =
+      let opens = ap (λ (x : BookRunState). x.changes) after in (
+        row_kept s t fields line (λ a. a) (ap (λ (x : BookRunState). x.book.version) after) (rw opens (omega arith)) (read_row fields (book_row.Held q) is) (λ n a.
+            subst (λ (r : Result BookRow BookRowError). IsBookRowAnswered n (bare s a) r line (bare t a)) (sym is)
+            (inl (room, may, line_is, ap (λ (x : BookRunState). bare x a) after))),
+        same_changes s t opens range,
+      )
+  row_remakes p s t fields (Ok (book_row.Held q)) line range is (inr (why, refused, line_is, after)) =
+      refused_remakes s t (row_text default_writer fields) range after
+  row_remakes p s t fields (Ok (book_row.Offer q hold)) line range is (inl (x, after)) =
+      let opens = ap (λ (y : BookRunState). y.changes) after in (
+        nothing_kept s t (row_text default_writer fields) (ap (λ (y : BookRunState). y.book) after, ap (λ (y : BookRunState). y.batches) after, ap (λ (y : BookRunState). y.restored) after) (rw opens (omega arith)),
+        same_changes s t opens range,
+      )
+  row_remakes p s t fields (Ok (book_row.Offer q hold)) line range is (inr (why, refused, line_is, after)) =
+      refused_remakes s t (row_text default_writer fields) range after
+  row_remakes p s t fields (Ok (book_row.Show id)) line range is a =
+      looked_remakes s t (row_text default_writer fields) range (shown_looks s t id (placement_of id s.book.placements) line a)
+  row_remakes p s t fields (Ok (book_row.Left from local)) line range is a =
+      looked_remakes s t (row_text default_writer fields) range (left_looks s t (from, local) (figures_at s.book.base s.book.placements (from, local)) line a)
 
 plain_append : (xs ys : List (List (List ℕ))) → AllByRecursion StartsPlain xs → AllByRecursion StartsPlain ys → AllByRecursion StartsPlain (xs ++ ys)
 plain_append [] ys a b = b
@@ -379,7 +484,7 @@ both_remake n k s m t x y a b = record {
   runs = λ from.
       let first = a.runs from in
       let second = b.runs first.0 in
-      (second.0, first.1 ++ second.1, λ p. append_answered a.records b.records p (bare s.book s.batches from) (bare m.book m.batches first.0) (bare t.book t.batches second.0) first.1 second.1 (first.2 p) second.2);
+      (second.0, first.1 ++ second.1, λ p. append_answered a.records b.records p (bare s from) (bare m first.0) (bare t second.0) first.1 second.1 (first.2 p) second.2);
 }
 
 no_rows : (s t : BookRunState) (text : List ℕ) → text ≡ [] → t ≡ s → Remakes 0 s t text
@@ -388,7 +493,7 @@ no_rows s t text none same = record {
   is = none;
   plain = tt;
   few = rw same (omega arith);
-  runs = λ a. (a, [], λ p. none_answered p (bare s.book s.batches a) (bare t.book t.batches a) (ap (λ (x : BookRunState). bare x.book x.batches a) same));
+  runs = λ a. (a, [], λ p. none_answered p (bare s a) (bare t a) (ap (λ (x : BookRunState). bare x a) same));
 }
 
 rows_remake : AreRowsRead → AreRowsReadBack → (rows : List (List (List ℕ))) (p : ℕ) (s t : BookRunState) (text : List ℕ) → AreOpenInRange s → AreAnswered kept_answers p s rows text t → Remakes (length rows) s t text
@@ -409,7 +514,7 @@ kept_is_book read laws rows text t a =
     record {
       few = rw cut (omega (arith, all.few));
       lines = run.1;
-      after = bare t.book t.batches run.0;
+      after = bare t run.0;
       answered = rw cut (run.2 1);
       book = refl;
       batches = refl;

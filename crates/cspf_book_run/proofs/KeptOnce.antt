@@ -1,11 +1,10 @@
 -- The rows of a run have only one answer each, if no write to the writer `keep` fails. If one fails,
 -- the rows and the number of written bytes have only one.
-use Rattle.std.proofs.Common.{◌≡◌, ℕ, suc, ◌+◌, ◌<◌, ◌≤◌, ◌++◌, true, false, List, [], ◌∷◌, length, length-append, take, Result, Ok, Err, inl, inr, refl, sym, ap, subst, ◌∙◌, arith}
+use Rattle.std.proofs.Common.{◌≡◌, ℕ, suc, ◌+◌, ◌<◌, ◌≤◌, ◌++◌, true, false, List, [], ◌∷◌, length, length-append, take, Result, Ok, Err, inl, inr, sym, ap, subst, ◌∙◌, arith}
 use Rattle.std.proofs.lemmas.Bool.{false≢true}
 use Rattle.std.proofs.lemmas.List.{length-take-le}
 use Rattle.cspf_model.specs.Laws.{OneBestAnswer, OneRefusal}
 use Rattle.cspf_ero.specs.ReplyLine.{HasOneReplyLine}
-use Rattle.cspf_rows.specs.declared.row_error.RowError.{RowError}
 use Rattle.cspf_rows.specs.Steps.{step_of}
 use Rattle.cspf_rows.specs.declared.step.Step.{Step}
 use Rattle.cspf_rows.specs.declared.step.Step.TheVariants as step
@@ -13,12 +12,16 @@ use Rattle.cspf_stream.specs.RowAnswers.{AreAnswered}
 use Rattle.cspf_stream.specs.declared.batch_refusal.BatchRefusal.TheVariants as refusal
 use Rattle.cspf_book_run.specs.declared.book_row.BookRow.{BookRow}
 use Rattle.cspf_book_run.specs.declared.book_row.BookRow.TheVariants as book_row
+use Rattle.cspf_book_run.specs.declared.book_row_error.BookRowError.{BookRowError}
 use Rattle.cspf_book_run.specs.BookRows.{book_row_of}
 use Rattle.cspf_book_run.specs.BookScript.{BookRunState, IsBookRowAnswered}
 use Rattle.cspf_book_run.specs.BookScriptLaws.{HaveKeptAlike, BooksHaveOneReply}
 use Rattle.cspf_book_run.specs.Kept.{kept_of}
 use Rattle.cspf_book_run.specs.KeptRuns.{KeptRunState, kept_start, kept_run_answers, IsRowCut, IsEndUnkept, IsStepStopped, IsAnsweredStopped, IsRowWritten, IsRowCutOff}
+use Rattle.cspf_book.specs.LinkFigures.{figures_at}
+use Rattle.cspf_book.specs.Placements.{placement_of}
 use Rattle.cspf_book_run.proofs.BookOneReply.{SameBookReply, ask_once, book_row_once}
+use Rattle.cspf_book_run.proofs.Looks.{shown_once, left_once}
 
 -- ---- what is written
 
@@ -58,9 +61,12 @@ cut_once : (s : BookRunState) (written : ℕ) (row : BookRow) (l m : List ℕ) (
 cut_once s written (book_row.Base row) l m t u a b = end_unkept_once s (step_of row) written l m t u a b
 cut_once s written (book_row.Place q hold) l m t u a b = (a.0 ∙ sym b.0, a.1 ∙ sym b.1)
 cut_once s written (book_row.Release id) l m t u a b = (a.0 ∙ sym b.0, a.1 ∙ sym b.1)
+cut_once s written (book_row.Held p) l m t u a b = (a.0 ∙ sym b.0, a.1 ∙ sym b.1)
+cut_once s written (book_row.Offer q hold) l m t u a b = (a.0 ∙ sym b.0, a.1 ∙ sym b.1)
+cut_once s written other l m t u a b = absurd a
 
 -- the result of reading a record as this row
-abbrev read_as : BookRow → Result BookRow RowError
+abbrev read_as : BookRow → Result BookRow BookRowError
 read_as r = Ok r
 
 one_row : (x y : BookRow) → read_as x ≡ read_as y → x ≡ y
@@ -71,12 +77,16 @@ step_stopped_once best reply s (step.Change c) l m t u a b = (a.0 ∙ sym b.0, a
 step_stopped_once best reply s (step.End number count) l m t u a b = (a.0 ∙ sym b.0, a.1 ∙ sym b.1)
 step_stopped_once best reply s (step.Ask q) l m t u a b = ask_once best reply s q l m t u a b
 
-stopped_once : OneBestAnswer → HasOneReplyLine → (place : ℕ) (s : BookRunState) (r : Result BookRow RowError) (l m : List ℕ) (t u : BookRunState)
+stopped_once : OneBestAnswer → HasOneReplyLine → (place : ℕ) (s : BookRunState) (r : Result BookRow BookRowError) (l m : List ℕ) (t u : BookRunState)
     → IsAnsweredStopped place s r l t → IsAnsweredStopped place s r m u → SameBookReply l t m u
 stopped_once best reply place s (Err e) l m t u a b = (a.0 ∙ sym b.0, a.1 ∙ sym b.1)
 stopped_once best reply place s (Ok (book_row.Base row)) l m t u a b = step_stopped_once best reply s (step_of row) l m t u a b
 stopped_once best reply place s (Ok (book_row.Place q hold)) l m t u a b = (a.0 ∙ sym b.0, a.1 ∙ sym b.1)
 stopped_once best reply place s (Ok (book_row.Release id)) l m t u a b = (a.0 ∙ sym b.0, a.1 ∙ sym b.1)
+stopped_once best reply place s (Ok (book_row.Held p)) l m t u a b = (a.0 ∙ sym b.0, a.1 ∙ sym b.1)
+stopped_once best reply place s (Ok (book_row.Offer q hold)) l m t u a b = (a.0 ∙ sym b.0, a.1 ∙ sym b.1)
+stopped_once best reply place s (Ok (book_row.Show id)) l m t u a b = shown_once s id (placement_of id s.book.placements) l m t u a b
+stopped_once best reply place s (Ok (book_row.Left from local)) l m t u a b = left_once s (from, local) (figures_at s.book.base s.book.placements (from, local)) l m t u a b
 
 one_state : (s t : KeptRunState) → s.run ≡ t.run → s.stopped ≡ t.stopped → s.kept ≡ t.kept → s ≡ t
 one_state s t run stopped kept = λ i. record { run = run i; stopped = stopped i; kept = kept i }

@@ -1,14 +1,20 @@
 -- The lemmas of this crate's proofs.
+pub mod RouteTexts
+pub mod RowRequests
 pub mod BookRowLemmas
 pub mod BookSteps
 pub mod ReplyLines
 pub mod PlaceSteps
+pub mod HeldSteps
 pub mod BookRun
+pub mod Looks
 pub mod LostOnce
 pub mod BookOneReply
 pub mod KeptOnce
 pub mod BookCovered
 pub mod KeptTexts
+pub mod HeldRows
+pub mod FigureTexts
 pub mod KeptBook
 pub mod OverTexts
 pub mod OverExact

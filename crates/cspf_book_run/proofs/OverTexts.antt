@@ -77,7 +77,7 @@ module _ (mark : ℕ) (no : IsMark mark) where
   free_decimals [] = tt
   free_decimals (n ∷ ns) = (free_decimal n, free_decimals ns)
 
-  free_address : (n : ℕ) → IsFree mark (address_text n)
+  pub free_address : (n : ℕ) → IsFree mark (address_text n)
   unfolding address_text
   free_address n = free_join (map decimal (to_be_bytes w32 n)) (free_decimals (to_be_bytes w32 n))
 

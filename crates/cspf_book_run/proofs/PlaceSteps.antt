@@ -20,7 +20,7 @@ use Rattle.cspf_book_run.specs.declared.refusals.PlaceRefusal.{PlaceRefusal}
 use Rattle.cspf_book_run.specs.declared.refusals.ReleaseRefusal.{ReleaseRefusal}
 use Rattle.cspf_book_run.specs.declared.refusals.ReleaseRefusal.TheVariants as unreleased
 use Rattle.cspf_book_run.specs.BookLines.{IsPlaceReply, refused_place_line, refused_release_line, released_line}
-use Rattle.cspf_book_run.specs.BookScript.{BookRunState, IsPlaceAnswered, IsPlaceRefusal, after_answer, after_refusal, after_release}
+use Rattle.cspf_book_run.specs.BookScript.{BookRunState, IsPlaceAnswered, after_answer, after_refusal, after_release}
 use Rattle.cspf_book_run.specs.BookSinks.{BookSinkState, IsPlacingKept, IsPlaceUnkept, IsReleased, IsReleaseUnkept, text_if_new}
 use Rattle.cspf_book_run.specs.BookStates.{KeepsBook, BookLeads}
 use Rattle.cspf_book_run.specs.Keeping.{IsLineOf, IsTextWritten, IsTextCutOff, IsUnkept, IsUnrouted}
@@ -49,7 +49,7 @@ placed old new q hold answer version line room few best is is_version reply s sa
 -- ---- what the book and the writer do for a `place` row
 
 -- what the keeper of a run does with a batch that it refuses, and with the batch of a placing
-abbrev KeeperRefuses : {K : Type 0} → (K → Option (List ℕ)) → Keeper K → NumberedChanges → Unkept → Keeper K → Type 0
+abbrev pub KeeperRefuses : {K : Type 0} → (K → Option (List ℕ)) → Keeper K → NumberedChanges → Unkept → Keeper K → Type 0
 KeeperRefuses contents before b why after = IsUnkept contents before.keeping before.text.items why after.keeping
 
 abbrev KeeperPlaces : {K : Type 0} → (K → Option (List ℕ)) → Keeper K → NumberedChanges → Answer → Keeper K → Type 0
@@ -130,7 +130,7 @@ on_err (Err e) P p = p
 
 -- If the code counts a refusal and leaves the book unchanged, the next state of the run is
 -- `after_refusal`.
-after_refused : {K : Type 0} (k k' : Rows (BookSinkState K)) → k'.sink.batches ≡ k.sink.batches → k'.changes ≡ k.changes → k'.sink.book ≡ k.sink.book → k'.answers ≡ k.answers
+pub after_refused : {K : Type 0} (k k' : Rows (BookSinkState K)) → k'.sink.batches ≡ k.sink.batches → k'.changes ≡ k.changes → k'.sink.book ≡ k.sink.book → k'.answers ≡ k.answers
     → k'.refused ≡ k.refused + 1 → (s : BookRunState) → KeepsBook k s → KeepsBook k' (after_refusal s)
 after_refused k k' batches changes book answers refused s kept = record {
   book = book ∙ kept.book;
@@ -151,19 +151,19 @@ refusal_counted {K} k k' sink changes answers refused line text line_is s kept =
 
 -- ---- what the code does for a row
 
--- the text of a `place` or `release` row
-abbrev own_text : List (List ℕ) → List ℕ
+-- the text of a row about a placement
+abbrev pub own_text : List (List ℕ) → List ℕ
 own_text fields = row_text default_writer fields
 
 module _ {K : Type 0} (contents : K → Option (List ℕ)) (fields : List (List ℕ)) (text : List ℕ) (text_is : text ≡ own_text fields) where
   -- The text that the code writes for a row that is accepted or leaves the book unchanged.
-  written_text : (old new s : BookState) (k k' : Keeping K) → old ≡ s → IsTextWritten contents k (cond (new.version == old.version) [] text) k'
+  pub written_text : (old new s : BookState) (k k' : Keeping K) → old ≡ s → IsTextWritten contents k (cond (new.version == old.version) [] text) k'
       → IsTextWritten contents k (cond (new.version == s.version) [] (own_text fields)) k'
   written_text old new s k k' same written =
       subst (λ (b : BookState). IsTextWritten contents k (cond (new.version == b.version) [] (own_text fields)) k') same
       (subst (λ (x : List ℕ). IsTextWritten contents k (cond (new.version == old.version) [] x) k') text_is written)
 
-  cut_text : (written old new : ℕ) (k k' : Keeping K) → new ≡ old + 1 → IsTextCutOff contents written k text k' → IsTextCutOff contents written k (cond (new == old) [] (own_text fields)) k'
+  pub cut_text : (written old new : ℕ) (k k' : Keeping K) → new ≡ old + 1 → IsTextCutOff contents written k text k' → IsTextCutOff contents written k (cond (new == old) [] (own_text fields)) k'
   cut_text written old new k k' rises cut =
       subst (λ (x : List ℕ). IsTextCutOff contents written k x k') (text_is ∙ sym (whole_text old new (own_text fields) rises)) cut
 

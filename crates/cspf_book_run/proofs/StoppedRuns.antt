@@ -1,8 +1,7 @@
 -- A write to the writer `keep` fails at no row of a run, or at one row. After this row nothing
 -- changes in the book.
-use Rattle.std.proofs.Common.{◌≡◌, ◌⊎◌, ℕ, suc, ◌+◌, ◌<◌, ◌≤◌, true, false, List, [], ◌∷◌, ◌++◌, codes, length, length-append, take, Result, Ok, Err, inl, inr, refl, sym, ap, subst, ◌∙◌, append_assoc, append-nil, arith}
+use Rattle.std.proofs.Common.{◌≡◌, ℕ, suc, ◌+◌, ◌≤◌, true, false, List, [], ◌∷◌, ◌++◌, codes, length, length-append, take, Option, Result, Ok, Err, inl, inr, refl, sym, ap, subst, ◌∙◌, append_assoc, append-nil, arith}
 use Rattle.std.proofs.lemmas.Bool.{false≢true}
-use Rattle.cspf_rows.specs.declared.row_error.RowError.{RowError}
 use Rattle.cspf_rows.specs.Steps.{step_of}
 use Rattle.cspf_rows.specs.declared.step.Step.{Step}
 use Rattle.cspf_rows.specs.declared.step.Step.TheVariants as step
@@ -10,21 +9,23 @@ use Rattle.cspf_stream.specs.BatchWords.{batch_words}
 use Rattle.cspf_stream.specs.RowAnswers.{AreAnswered}
 use Rattle.cspf_stream.specs.declared.batch_refusal.BatchRefusal.{BatchRefusal}
 use Rattle.cspf_stream.specs.declared.batch_refusal.BatchRefusal.TheVariants as refusal
-use Rattle.cspf_stream.proofs.Going.{none_answered}
 use Rattle.cspf_book_run.specs.declared.book_row.BookRow.{BookRow}
 use Rattle.cspf_book_run.specs.declared.book_row.BookRow.TheVariants as book_row
-use Rattle.cspf_book_run.specs.declared.refusals.PlaceRefusal.{PlaceRefusal}
-use Rattle.cspf_book_run.specs.declared.refusals.PlaceRefusal.TheVariants as unplaced
-use Rattle.cspf_book_run.specs.declared.refusals.ReleaseRefusal.{ReleaseRefusal}
-use Rattle.cspf_book_run.specs.declared.refusals.ReleaseRefusal.TheVariants as unreleased
+use Rattle.cspf_book_run.specs.declared.book_row_error.BookRowError.{BookRowError}
+use Rattle.cspf_book_run.proofs.Looks.{Looks, shown_looks, left_looks, look_same}
 use Rattle.cspf_book_run.specs.BookLines.{place_words, release_words}
+use Rattle.cspf_book_run.specs.PlacementLines.{held_words}
+use Rattle.cspf_book.specs.declared.link_figures.LinkFigures.{LinkFigures}
+use Rattle.cspf_book.specs.declared.placement.Placement.{Placement}
+use Rattle.cspf_book.specs.LinkFigures.{figures_at}
+use Rattle.cspf_book.specs.Placements.{id_of, placement_of}
 use Rattle.cspf_book_run.specs.BookRows.{book_row_of}
-use Rattle.cspf_book_run.specs.BookScript.{BookRunState, book_answers, IsBookRowAnswered, IsBookStepAnswered}
-use Rattle.cspf_book_run.specs.Kept.{kept_answers, kept_of}
+use Rattle.cspf_book_run.specs.BookScript.{BookRunState, changers, after_refusal}
+use Rattle.cspf_book_run.specs.Kept.{kept_of}
 use Rattle.cspf_book_run.specs.KeptLaws.{IsKeptThroughout, StopsAtOneRow, RunsStopOnce, KeptIsTheBook, KeptRunIsTheBook, RemakesBook}
-use Rattle.cspf_book_run.specs.KeptRuns.{KeptRunState, kept_start, kept_run_answers, stopped_answers, IsEndUnkept, IsRowUnkept, IsRowCut, IsStepStopped, IsTakenStopped, IsAnsweredStopped, IsRowWritten, IsRowCutOff}
+use Rattle.cspf_book_run.specs.KeptRuns.{KeptRunState, RowRefusals, by_stopped, by_keep, kept_start, kept_run_answers, stopped_answers, IsEndUnkept, IsRowUnkept, IsStepStopped, IsAnsweredStopped, IsRowWritten, IsRowCutOff}
 use Rattle.cspf_book_run.proofs.KeptOnce.{stays_stopped}
-use Rattle.cspf_book_run.proofs.OverOnly.{skips_refused, skips_batch, skips_unplaced, skips_unreleased, step_says, row_says, says_none_over}
+use Rattle.cspf_book_run.proofs.OverOnly.{skips_refused, skips_batch, skips_unplaced, skips_unreleased, skips_unheld, skips_look, skips_room, step_says, row_says, says_none_over}
 use Rattle.cspf_book_run.proofs.OverTexts.{Skips, skips_none, skips_append}
 
 -- ---- rows that leave the book unchanged
@@ -41,35 +42,47 @@ end_leaves why s t (step.End number count) line (line_is, after) = (
 )
 end_leaves why s t other line a = absurd a
 
-unkept_leaves : (batch : BatchRefusal) (place : PlaceRefusal) (release : ReleaseRefusal) (s t : BookRunState) (row : BookRow) (line : List ℕ) → IsRowUnkept batch place release s row line t → LeavesBook s t line
-unkept_leaves batch place release s t (book_row.Base row) line a = end_leaves batch s t (step_of row) line a
-unkept_leaves batch place release s t (book_row.Place q hold) line (line_is, after) = (
-  ap (λ (x : BookRunState). x.book) after,
-  ap (λ (x : BookRunState). x.batches) after,
-  subst Skips (sym line_is) (skips_refused (codes "place ") (place_words place) q.id refl (skips_unplaced place)),
-)
-unkept_leaves batch place release s t (book_row.Release id) line (line_is, after) = (
-  ap (λ (x : BookRunState). x.book) after,
-  ap (λ (x : BookRunState). x.batches) after,
-  subst Skips (sym line_is) (skips_refused (codes "release ") (release_words release) id refl (skips_unreleased release)),
-)
+refusal_leaves : (s t : BookRunState) (line text : List ℕ) → line ≡ text → t ≡ after_refusal s → Skips text → LeavesBook s t line
+refusal_leaves s t line text line_is after skips =
+    (ap (λ (x : BookRunState). x.book) after, ap (λ (x : BookRunState). x.batches) after, subst Skips (sym line_is) skips)
+
+unkept_leaves : (why : RowRefusals) (s t : BookRunState) (row : BookRow) (line : List ℕ) → IsRowUnkept why s row line t → LeavesBook s t line
+unkept_leaves why s t (book_row.Base row) line a = end_leaves why.batch s t (step_of row) line a
+unkept_leaves why s t (book_row.Place q hold) line (line_is, after) =
+    refusal_leaves s t line _ line_is after (skips_refused (codes "place ") (place_words why.place) q.id refl (skips_unplaced why.place))
+unkept_leaves why s t (book_row.Release id) line (line_is, after) =
+    refusal_leaves s t line _ line_is after (skips_refused (codes "release ") (release_words why.release) id refl (skips_unreleased why.release))
+unkept_leaves why s t (book_row.Held p) line (line_is, after) =
+    refusal_leaves s t line _ line_is after (skips_refused (codes "held ") (held_words why.held) (id_of p) refl (skips_unheld why.held))
+unkept_leaves why s t (book_row.Offer q hold) line (line_is, after) =
+    refusal_leaves s t line _ line_is after (skips_refused (codes "offer ") (place_words why.place) q.id refl (skips_unplaced why.place))
+unkept_leaves why s t other line a = absurd a
+
+looked_leaves : (s t : BookRunState) (line : List ℕ) → Looks s t → Skips line → LeavesBook s t line
+looked_leaves s t line look skips =
+    (look_same (λ (x : BookRunState). x.book) s t refl look, look_same (λ (x : BookRunState). x.batches) s t refl look, skips)
 
 step_leaves : (s t : BookRunState) (asked : Step) (line : List ℕ) → IsStepStopped s asked line t → LeavesBook s t line
 step_leaves s t (step.Change c) line a =
-    let batches = ap (λ (x : BookRunState). x.batches) a.1 in
-    (ap (λ (x : BookRunState). x.book) a.1, batches, (step_says s t (step.Change c) line a).1 batches)
+    (ap (λ (x : BookRunState). x.book) a.1, ap (λ (x : BookRunState). x.batches) a.1, (step_says s t (step.Change c) line a).1 (ap changers a.1))
 step_leaves s t (step.End number count) line a = end_leaves refusal.Stopped s t (step.End number count) line a
 step_leaves s t (step.Ask q) line a =
-    let batches = ap (λ (x : BookRunState). x.batches) a.3 in
-    (ap (λ (x : BookRunState). x.book) a.3, batches, (step_says s t (step.Ask q) line a).1 batches)
+    (ap (λ (x : BookRunState). x.book) a.3, ap (λ (x : BookRunState). x.batches) a.3, (step_says s t (step.Ask q) line a).1 (ap changers a.3))
 
-row_leaves : (place : ℕ) (s t : BookRunState) (row : Result BookRow RowError) (line : List ℕ) → IsAnsweredStopped place s row line t → LeavesBook s t line
+row_leaves : (place : ℕ) (s t : BookRunState) (row : Result BookRow BookRowError) (line : List ℕ) → IsAnsweredStopped place s row line t → LeavesBook s t line
 row_leaves place s t (Err e) line a =
-    let batches = ap (λ (x : BookRunState). x.batches) a.1 in
-    (ap (λ (x : BookRunState). x.book) a.1, batches, (row_says place s t (Err e) line a).1 batches)
+    (ap (λ (x : BookRunState). x.book) a.1, ap (λ (x : BookRunState). x.batches) a.1, (row_says place s t (Err e) line a).1 (ap changers a.1))
 row_leaves place s t (Ok (book_row.Base row)) line a = step_leaves s t (step_of row) line a
-row_leaves place s t (Ok (book_row.Place q hold)) line a = unkept_leaves refusal.Stopped unplaced.Stopped unreleased.Stopped s t (book_row.Place q hold) line a
-row_leaves place s t (Ok (book_row.Release id)) line a = unkept_leaves refusal.Stopped unplaced.Stopped unreleased.Stopped s t (book_row.Release id) line a
+row_leaves place s t (Ok (book_row.Show id)) line a =
+    let found : Option Placement = placement_of id s.book.placements in
+    looked_leaves s t line (shown_looks s t id found line a) (skips_look s t id found line a)
+row_leaves place s t (Ok (book_row.Left from local)) line a =
+    let found : Option LinkFigures = figures_at s.book.base s.book.placements (from, local) in
+    looked_leaves s t line (left_looks s t (from, local) found line a) (skips_room s t (from, local) found line a)
+row_leaves place s t (Ok (book_row.Place q hold)) line a = unkept_leaves by_stopped s t (book_row.Place q hold) line a
+row_leaves place s t (Ok (book_row.Release id)) line a = unkept_leaves by_stopped s t (book_row.Release id) line a
+row_leaves place s t (Ok (book_row.Held p)) line a = unkept_leaves by_stopped s t (book_row.Held p) line a
+row_leaves place s t (Ok (book_row.Offer q hold)) line a = unkept_leaves by_stopped s t (book_row.Offer q hold) line a
 
 rows_leave : (place : ℕ) (s t : BookRunState) (rows : List (List (List ℕ))) (lines : List ℕ) → AreAnswered stopped_answers place s rows lines t → LeavesBook s t lines
 unfolding AreAnswered
@@ -125,7 +138,7 @@ stops_here place s next t fields rows lines line more cut whole rest =
     let last = stays_stopped (suc place) next t rows more rest cut.1 in
     let later = later_rows (suc place) next t rows more rest cut.1 in
     let left = rows_leave (suc place) next.run t.run rows more later in
-    let refused = unkept_leaves (refusal.Keep cut.2) (unplaced.Keep cut.2) (unreleased.Keep cut.2) s.run next.run cut.3.row line cut.3.refused in
+    let refused = unkept_leaves (by_keep cut.2) s.run next.run cut.3.row line cut.3.refused in
     let here : place + 0 ≡ place = omega arith in
     record {
       done = [];

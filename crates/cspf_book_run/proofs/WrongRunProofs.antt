@@ -16,7 +16,7 @@ use Rattle.cspf_book.specs.declared.over.Over.{Over}
 use Rattle.cspf_book.specs.Placements.{counted}
 use Rattle.cspf_book.specs.OverLinks.{priorities, over_at}
 use Rattle.cspf_book_run.specs.BookLines.{over_line, base_line}
-use Rattle.cspf_book_run.specs.BookScript.{BookRunState}
+use Rattle.cspf_book_run.specs.BookScript.{BookRunState, changers}
 use Rattle.cspf_book_run.specs.BookScriptLaws.{IsBookCovered, IsSaidOver, CoversSince}
 use Rattle.cspf_book_run.specs.WrongRuns.{ObeysWeakerLaws, WeakerLawsFollow, HoldsThroughout, left_link, right_link, base_with, holding, book_with, over_lines, both_covered, both_lowered, right_raised, IsRefusedAfterwards, ExcuseEndsWithCover, OtherLinkIsNoExcuse, OtherPriorityIsNoExcuse, UntrueOverIsRefused}
 use Rattle.cspf_book_run.proofs.BookCovered.{said_among, said_first, said_second}
@@ -103,7 +103,7 @@ both_named left right l priority small is =
 
 -- The weaker laws hold between the first state and each later state, because the `over` lines in
 -- between name both links at each priority.
-from_first : (lines more : List ℕ) (left right : ℕ) (t : BookRunState) → lines ≡ both_lowered.0 ++ more → t.book.base ≡ base_with left right → 1 < t.batches
+from_first : (lines more : List ℕ) (left right : ℕ) (t : BookRunState) → lines ≡ both_lowered.0 ++ more → t.book.base ≡ base_with left right → 1 < changers t
     → ObeysWeakerLaws both_covered lines t
 from_first lines more left right t split base later = record {
   keeps = λ same covered. absurd (omega (arith, same, later));
@@ -120,7 +120,7 @@ left_short batches version right covered =
 from_short : (s : BookRunState) (lines : List ℕ) (t : BookRunState) → ¬ IsBookCovered s.book → ObeysWeakerLaws s lines t
 from_short s lines t short = record { keeps = λ _ covered. absurd (short covered); says = λ covered. absurd (short covered) }
 
-allowed : (lines : List ℕ) (left right : ℕ) (t : BookRunState) → t.book.base ≡ base_with left right → 1 < t.batches
+allowed : (lines : List ℕ) (left right : ℕ) (t : BookRunState) → t.book.base ≡ base_with left right → 1 < changers t
     → HoldsThroughout ObeysWeakerLaws both_covered (both_lowered ∷ right_raised ∷ (lines, t) ∷ [])
 allowed lines left right t base later = (
   (

@@ -13,7 +13,7 @@ use Rattle.cspf_book.specs.BookState.{BookState}
 use Rattle.cspf_book.specs.OverLinks.{over_at}
 use Rattle.cspf_book.specs.Laws.{IsCovered}
 use Rattle.cspf_book_run.specs.BookLines.{over_line}
-use Rattle.cspf_book_run.specs.BookScript.{BookRunState, AreBaseLines, book_answers}
+use Rattle.cspf_book_run.specs.BookScript.{BookRunState, AreBaseLines, book_answers, changers}
 use Rattle.cspf_book_run.specs.KeptRuns.{KeptRunState, IsBookRun}
 
 -- In both states no write to `keep`, the writer of accepted rows, has failed. Or one has failed in
@@ -44,13 +44,13 @@ IsSaidOver lines l priority =
 
 -- The claim for a state `s`, a later state `t`, and the lines that are written between them.
 -- Suppose that a link of the base in `t` is covered in `s`, or isn't in the base in `s`. Then the
--- link is covered in `t`, or its `over` line was written in between and a base batch was accepted.
--- An `over` line reports too little bandwidth.
+-- link is covered in `t`, or its `over` line was written in between, and a base batch was accepted
+-- or a placement restored. An `over` line reports too little bandwidth.
 abbrev pub CoversSince : BookRunState → List ℕ → BookRunState → Type 0
 CoversSince s lines t =
     (l : Link) (priority : ℕ) → IsLinkOf t.book.base l → priority < 8
     → (IsLinkOf s.book.base l → IsCovered s.book.placements l priority)
-    → IsCovered t.book.placements l priority ⊎ ((s.batches < t.batches) × IsSaidOver lines l priority)
+    → IsCovered t.book.placements l priority ⊎ ((changers s < changers t) × IsSaidOver lines l priority)
 
 -- `CoversSince` holds for each state of a run, the lines of the rows that are answered next, and
 -- the state after these rows. So a covered link stays covered, or its `over` line is among these
@@ -81,20 +81,21 @@ BaseLinesAreExact =
     (s : BookRunState) (number : ℕ) (lines : List ℕ) → AllByRecursion IsChangeInRange s.changes → AreBaseLines s number lines
     → SaysOverExactly s lines
 
--- As long as no base batch is accepted, no `over` line is written. An `over` line reports too
--- little bandwidth.
-abbrev pub OnlyBatchesSayOver : Type 0
-OnlyBatchesSayOver =
+-- As long as no base batch is accepted and no placement is restored, no `over` line is written. An
+-- `over` line reports too little bandwidth.
+abbrev pub OnlyChangersSayOver : Type 0
+OnlyChangersSayOver =
     (place : ℕ) (s t : BookRunState) (rows : List (List (List ℕ))) (lines : List ℕ)
-    → AreAnswered book_answers place s rows lines t → t.batches ≡ s.batches
+    → AreAnswered book_answers place s rows lines t → changers t ≡ changers s
     → (l : Link) (priority : ℕ) → ¬ IsSaidOver lines l priority
 
 -- The numbers of the base's links, and of the changes since the last end row, are in the ranges of
--- their types. At each key and priority, the bandwidth that the placements count is below 2 ^ 64.
+-- their types. If no placement was restored, the bandwidth that the placements count is below 2 ^ 64
+-- at each key and priority. A restored placement isn't compared with the base's bandwidths.
 pub record IsBookInRange (s : BookRunState) : Type 0 where
   pub base : (l : Link) → IsLinkOf s.book.base l → IsLinkInRange l
   pub changes : AllByRecursion IsChangeInRange s.changes
-  pub sums : (k : Key) (priority : ℕ) → priority < 8 → counted s.book.placements k priority < 2 ^ 64
+  pub sums : s.restored ≡ 0 → (k : Key) (priority : ℕ) → priority < 8 → counted s.book.placements k priority < 2 ^ 64
 
 -- If the numbers of a state are in range (`IsBookInRange`), they are in range after any rows. This
 -- is true even after base batches that lower the bandwidth of links.

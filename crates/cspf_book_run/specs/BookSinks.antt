@@ -19,9 +19,13 @@ use Rattle.cspf_book.specs.BookState.{BookState, state_code}
 use Rattle.cspf_book.specs.Effective.{effective}
 use Rattle.cspf_book.specs.Placements.{has_id}
 use Rattle.cspf_book_run.specs.BookLines.{released_line}
-use Rattle.cspf_book_run.specs.BookScript.{BookRunState, AreBaseLines, after_base_batch, after_release, IsPlaceAnswered, IsPlaceRefusal, IsReleaseRefusal}
+use Rattle.cspf_book_run.specs.BookScript.{BookRunState, AreBaseLines, after_base_batch, after_release, after_held, held_lines, IsPlaceAnswered, IsPlaceRefusal, IsReleaseRefusal, IsHeldRefusal}
 use Rattle.cspf_book_run.specs.Keeping.{IsTextWritten, IsTextCutOff}
 use Rattle.cspf_book_run.specs.declared.keeper.Keeping.{Keeping}
+use Rattle.cspf_book.specs.declared.placement.Placement.{Placement}
+use Rattle.cspf_book.specs.Restoring.{MayBeAdded}
+use Rattle.cspf_book_run.specs.declared.held_refusal.HeldRefusal.{HeldRefusal}
+use Rattle.cspf_book_run.specs.declared.held_refusal.HeldRefusal.TheVariants as unheld
 use Rattle.cspf_book_run.specs.declared.refusals.PlaceRefusal.{PlaceRefusal}
 use Rattle.cspf_book_run.specs.declared.refusals.PlaceRefusal.TheVariants as unplaced
 use Rattle.cspf_book_run.specs.declared.refusals.ReleaseRefusal.{ReleaseRefusal}
@@ -42,7 +46,7 @@ sink_code {K} code =
 
 -- a state of a run that has this sink and these open changes
 abbrev pub book_state_with : {K : Type 0} → BookSinkState K → List Change → BookRunState
-book_state_with sink changes = record { book = sink.book; batches = sink.batches; changes = changes; answers = 0; refused = 0 }
+book_state_with sink changes = record { book = sink.book; batches = sink.batches; restored = 0; changes = changes; answers = 0; refused = 0 }
 
 -- The placement with this id is released, and the line reports this. `book` is the book after the
 -- release.
@@ -51,9 +55,20 @@ IsReleased s id line book =
     (s.book.version < MOST_PLACING_VERSIONS) × IsTrue (has_id id s.book.placements)
     × (line ≡ released_line id (s.book.version + 1)) × (book ≡ (after_release s id).book)
 
+-- The placement is restored, and the lines report this. `book` is the book after the row.
+abbrev pub IsHeldSaid : BookRunState → Placement → List ℕ → BookState → Type 0
+IsHeldSaid s p lines book =
+    (s.book.version < MOST_PLACING_VERSIONS) × MayBeAdded s.book.placements p
+    × (lines ≡ held_lines s p) × (book ≡ (after_held s p).book)
+
 -- the text of a row, if the row has changed the book's version
 abbrev pub text_if_new : BookState → BookState → List ℕ → List ℕ
 text_if_new old new text = if new.version == old.version then [] else text
+
+-- Why an `offer` row is refused. Nothing is written for it.
+abbrev pub IsOfferUnkept : {K : Type 0} → BookRunState → Request → Keeping K → PlaceRefusal → Type 0
+IsOfferUnkept s q old unplaced.Stopped = old.stopped ≡ true
+IsOfferUnkept s q old other = (old.stopped ≡ false) × IsPlaceRefusal s q other
 
 module _ {K : Type 0} (contents : K → Option (List ℕ)) where
   -- Why a base batch isn't accepted: it doesn't fit the base, or the write of its text fails. Lines
@@ -99,3 +114,10 @@ module _ {K : Type 0} (contents : K → Option (List ℕ)) where
   IsReleaseUnkept s id text old (unreleased.Keep written) new =
       (old.stopped ≡ false) × IsTextCutOff contents written old text new × (s.book.version < MOST_PLACING_VERSIONS) × IsTrue (has_id id s.book.placements)
   IsReleaseUnkept s id text old other new = (old.stopped ≡ false) × (new ≡ old) × IsReleaseRefusal s id other
+
+  -- why a `held` row is refused, in the same way
+  abbrev pub IsHeldUnkept : BookRunState → Placement → List ℕ → Keeping K → HeldRefusal → Keeping K → Type 0
+  IsHeldUnkept s p text old unheld.Stopped new = (old.stopped ≡ true) × (new ≡ old)
+  IsHeldUnkept s p text old (unheld.Keep written) new =
+      (old.stopped ≡ false) × IsTextCutOff contents written old text new × (s.book.version < MOST_PLACING_VERSIONS) × MayBeAdded s.book.placements p
+  IsHeldUnkept s p text old other new = (old.stopped ≡ false) × (new ≡ old) × IsHeldRefusal s p other

@@ -5,16 +5,20 @@ use Rattle.cspf_rows.specs.declared.limits.TheConstants.{MOST_ROWS}
 use Rattle.cspf_stream.specs.OpenChanges.{AreOpen}
 use Rattle.cspf_stream.specs.RowCounts.{GrowsByOneAtMost}
 use Rattle.cspf_stream.specs.declared.rows.Rows.{Rows}
+use Rattle.cspf_book.specs.PlacedRoutes.{ConnectsItsEnds}
 use Rattle.cspf_book_run.specs.declared.book_row.BookRow.{BookRow}
 use Rattle.cspf_book_run.specs.declared.book_row.BookRow.TheVariants as book_row
 use Rattle.cspf_book_run.specs.declared.book_rows.BookRows.{BookRows}
 use Rattle.cspf_book_run.specs.BookScript.{BookRunState}
 use Rattle.cspf_book_run.specs.BookSinks.{BookSinkState}
 
--- A claim that is true of each row that is read. In a `place` row, the setup priority is 7 and the
--- holding priority is at most 7.
+-- A claim that is true of each row that is read. In a `place` or `offer` row, the setup priority is
+-- 7 and the holding priority is at most 7. In a `held` row, the setup priority is 7, and the route
+-- leads from the head-end to the tail-end.
 abbrev pub IsReadable : BookRow → Type 0
 IsReadable (book_row.Place q hold) = (q.setup ≡ 7) × (hold < 8)
+IsReadable (book_row.Offer q hold) = (q.setup ≡ 7) × (hold < 8)
+IsReadable (book_row.Held p) = (p.request.setup ≡ 7) × ConnectsItsEnds p
 IsReadable other = Unit {0}
 
 -- The code's rows store the state `s` of the run.

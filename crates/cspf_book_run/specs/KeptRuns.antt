@@ -2,7 +2,6 @@
 -- Once a write to `keep` has failed, no row is accepted any more.
 use Rattle.std.specs.Prelude.{◌≡◌, ℕ, ◌<◌, ◌⊎◌, Bool, true, false, List, [], ◌++◌, take, length, Result, Ok, Err}
 use Rattle.cspf_rows.specs.declared.limits.TheConstants.{MOST_ROWS}
-use Rattle.cspf_rows.specs.declared.row_error.RowError.{RowError}
 use Rattle.cspf_rows.specs.declared.step.Step.{Step}
 use Rattle.cspf_rows.specs.declared.step.Step.TheVariants as step
 use Rattle.cspf_rows.specs.Records.{rows_of}
@@ -15,10 +14,15 @@ use Rattle.cspf_solve.specs.declared.summary.Summary.{Summary}
 use Rattle.cspf_solve.specs.Script.{is_too_many}
 use Rattle.cspf_book_run.specs.BookLines.{refused_place_line, refused_release_line}
 use Rattle.cspf_book_run.specs.BookRows.{book_row_of}
-use Rattle.cspf_book_run.specs.BookScript.{BookRunState, book_start, book_answers, book_summary_of, after_refusal, after_refused_base_batch, IsBookStepAnswered, IsBookRowAnswered}
+use Rattle.cspf_book_run.specs.BookScript.{BookRunState, book_start, book_answers, book_summary_of, after_refusal, after_refused_base_batch, IsBookStepAnswered, IsBookRowTaken, IsBookRowAnswered}
 use Rattle.cspf_book_run.specs.Kept.{kept_of}
+use Rattle.cspf_book_run.specs.PlacementLines.{refused_held_line, refused_offer_line}
+use Rattle.cspf_book.specs.Placements.{id_of}
 use Rattle.cspf_book_run.specs.declared.book_row.BookRow.{BookRow}
 use Rattle.cspf_book_run.specs.declared.book_row.BookRow.TheVariants as book_row
+use Rattle.cspf_book_run.specs.declared.book_row_error.BookRowError.{BookRowError}
+use Rattle.cspf_book_run.specs.declared.held_refusal.HeldRefusal.{HeldRefusal}
+use Rattle.cspf_book_run.specs.declared.held_refusal.HeldRefusal.TheVariants as unheld
 use Rattle.cspf_book_run.specs.declared.refusals.PlaceRefusal.{PlaceRefusal}
 use Rattle.cspf_book_run.specs.declared.refusals.PlaceRefusal.TheVariants as unplaced
 use Rattle.cspf_book_run.specs.declared.refusals.ReleaseRefusal.{ReleaseRefusal}
@@ -44,16 +48,39 @@ abbrev pub IsEndUnkept : BatchRefusal → BookRunState → Step → List ℕ →
 IsEndUnkept why s (step.End number count) line after = (line ≡ refused_batch_line number why) × (after ≡ after_refused_base_batch s)
 IsEndUnkept why s other line after = ⊥
 
--- An end row, a `place` row or a `release` row is refused for one of these reasons, each for its
--- kind. The book is unchanged.
-abbrev pub IsRowUnkept : BatchRefusal → PlaceRefusal → ReleaseRefusal → BookRunState → BookRow → List ℕ → BookRunState → Type 0
-IsRowUnkept batch place release s (book_row.Base row) line after = IsEndUnkept batch s (step_of row) line after
-IsRowUnkept batch place release s (book_row.Place q hold) line after = (line ≡ refused_place_line q.id place) × (after ≡ after_refusal s)
-IsRowUnkept batch place release s (book_row.Release id) line after = (line ≡ refused_release_line id release) × (after ≡ after_refusal s)
+-- the reason for which a row is refused, for each kind of rows that could change the book
+pub record RowRefusals : Type 0 where
+  pub batch : BatchRefusal
+  pub place : PlaceRefusal
+  pub release : ReleaseRefusal
+  pub held : HeldRefusal
+
+-- Each kind of rows is refused by `stopped`.
+abbrev pub by_stopped : RowRefusals
+by_stopped = record { batch = refusal.Stopped; place = unplaced.Stopped; release = unreleased.Stopped; held = unheld.Stopped }
+
+-- Each kind of rows is refused by `keep W`, where W is `written`.
+abbrev pub by_keep : ℕ → RowRefusals
+by_keep written = record {
+  batch = refusal.Keep written;
+  place = unplaced.Keep written;
+  release = unreleased.Keep written;
+  held = unheld.Keep written;
+}
+
+-- A row is refused for one of these reasons, each for its kind. The book is unchanged. An `offer`
+-- row has the reasons of a `place` row. A row that only looks is never refused so.
+abbrev pub IsRowUnkept : RowRefusals → BookRunState → BookRow → List ℕ → BookRunState → Type 0
+IsRowUnkept why s (book_row.Base row) line after = IsEndUnkept why.batch s (step_of row) line after
+IsRowUnkept why s (book_row.Place q hold) line after = (line ≡ refused_place_line q.id why.place) × (after ≡ after_refusal s)
+IsRowUnkept why s (book_row.Release id) line after = (line ≡ refused_release_line id why.release) × (after ≡ after_refusal s)
+IsRowUnkept why s (book_row.Held p) line after = (line ≡ refused_held_line (id_of p) why.held) × (after ≡ after_refusal s)
+IsRowUnkept why s (book_row.Offer q hold) line after = (line ≡ refused_offer_line q.id why.place) × (after ≡ after_refusal s)
+IsRowUnkept why s other line after = ⊥
 
 -- The row is refused by `keep W`, where W is `written`.
 abbrev pub IsRowCut : ℕ → BookRunState → BookRow → List ℕ → BookRunState → Type 0
-IsRowCut written s row line after = IsRowUnkept (refusal.Keep written) (unplaced.Keep written) (unreleased.Keep written) s row line after
+IsRowCut written s row line after = IsRowUnkept (by_keep written) s row line after
 
 -- A write of the row's text fails after the first `written` bytes. If all of the text were written,
 -- the row would be accepted, and `next` would be the state after it. Instead it is refused by `keep
@@ -73,14 +100,17 @@ abbrev pub IsStepStopped : BookRunState → Step → List ℕ → BookRunState �
 IsStepStopped s (step.End number count) line after = IsEndUnkept refusal.Stopped s (step.End number count) line after
 IsStepStopped s other line after = IsBookStepAnswered s other line after
 
--- How a row whose fields could be read is answered after a write has failed. Each `place` and
--- `release` row is refused by `stopped`, before any other reason.
+-- How a row whose fields could be read is answered after a write has failed. Each `place`,
+-- `release`, `held` and `offer` row is refused by `stopped`, before any other reason. Rows that only
+-- look are answered as before.
 abbrev pub IsTakenStopped : BookRunState → BookRow → List ℕ → BookRunState → Type 0
 IsTakenStopped s (book_row.Base row) line after = IsStepStopped s (step_of row) line after
-IsTakenStopped s other line after = IsRowUnkept refusal.Stopped unplaced.Stopped unreleased.Stopped s other line after
+IsTakenStopped s (book_row.Show id) line after = IsBookRowTaken s (book_row.Show id) line after
+IsTakenStopped s (book_row.Left from local) line after = IsBookRowTaken s (book_row.Left from local) line after
+IsTakenStopped s other line after = IsRowUnkept by_stopped s other line after
 
 -- How a row is answered after a write has failed. A row that couldn't be read is refused as before.
-abbrev pub IsAnsweredStopped : ℕ → BookRunState → Result BookRow RowError → List ℕ → BookRunState → Type 0
+abbrev pub IsAnsweredStopped : ℕ → BookRunState → Result BookRow BookRowError → List ℕ → BookRunState → Type 0
 IsAnsweredStopped place s (Err error) line after = IsBookRowAnswered place s (Err error) line after
 IsAnsweredStopped place s (Ok row) line after = IsTakenStopped s row line after
 

@@ -1,9 +1,9 @@
 -- Private: how the code answers one row and writes its text to `keep`, the writer of accepted rows.
-use Rattle.std.specs.Prelude.{◌≡◌, ◌==◌, if◌then◌else◌, ℕ, ◌+◌, ◌⊎◌, Bool, true, false, List, [], Option, Result, Ok, Err}
-use Rattle.cspf_rows.specs.declared.row_error.RowError.{RowError}
+use Rattle.std.specs.Prelude.{◌≡◌, ◌==◌, if◌then◌else◌, ℕ, ◌⊎◌, Bool, true, false, List, [], Option, Result, Ok, Err}
 use Rattle.cspf_stream.specs.Lines.{last_line}
 use Rattle.cspf_stream.specs.declared.rows.Rows.{Rows}
 use Rattle.cspf_book_run.specs.declared.book_row.BookRow.{BookRow}
+use Rattle.cspf_book_run.specs.declared.book_row_error.BookRowError.{BookRowError}
 use Rattle.cspf_book_run.specs.declared.book_rows.BookRows.{BookRows}
 use Rattle.cspf_book_run.specs.declared.keeper.Keeping.{Keeping}
 use Rattle.cspf_book_run.specs.BookRows.{book_row_of}
@@ -45,12 +45,12 @@ module _ {K : Type 0} (contents : K → Option (List ℕ)) where
       → (new.sink.keeping ≡ old.sink.keeping) ⊎ ((line : List ℕ) × (t : BookRunState) × IsRowFailed s fields row line t old.sink.keeping new.sink.keeping)
 
   -- Row `place` is answered. For a row that couldn't be read nothing is written.
-  abbrev pub IsAnsweredDone : ℕ → BookRunState → List (List ℕ) → Result BookRow RowError → List ℕ → BookRunState → Keeping K → Keeping K → Type 0
+  abbrev pub IsAnsweredDone : ℕ → BookRunState → List (List ℕ) → Result BookRow BookRowError → List ℕ → BookRunState → Keeping K → Keeping K → Type 0
   IsAnsweredDone place s fields (Err error) line t old new = IsBookRowAnswered place s (Err error) line t × (new ≡ old)
   IsAnsweredDone place s fields (Ok row) line t old new = IsRowDone s fields row line t old new
 
   -- Memory is refused while a row is answered.
-  abbrev pub IsAnsweredLost : List (List ℕ) → Result BookRow RowError → Rows (BookSinkState K) → Rows (BookSinkState K) → Type 0
+  abbrev pub IsAnsweredLost : List (List ℕ) → Result BookRow BookRowError → Rows (BookSinkState K) → Rows (BookSinkState K) → Type 0
   IsAnsweredLost fields (Err error) old new = new.sink.keeping ≡ old.sink.keeping
   IsAnsweredLost fields (Ok row) old new = IsRowLost fields row old new
 

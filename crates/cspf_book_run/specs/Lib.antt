@@ -1,6 +1,10 @@
 -- The definitions that this crate's contracts use.
+pub mod RouteText
 pub mod BookRows
+pub mod BookRowWords
 pub mod BookLines
+pub mod PlacementLines
+pub mod HeldRows
 pub mod PlaceErrors
 pub mod BookScript
 pub mod Keeping

@@ -15,15 +15,15 @@ use Rattle.cspf_book.specs.Placements.{passed_of}
 use Rattle.cspf_book.specs.OverLinks.{priorities, over_at}
 use Rattle.cspf_book.specs.Laws.{IsCovered}
 use Rattle.cspf_book_run.specs.BookLines.{over_line, base_line}
-use Rattle.cspf_book_run.specs.BookScript.{BookRunState}
+use Rattle.cspf_book_run.specs.BookScript.{BookRunState, changers}
 use Rattle.cspf_book_run.specs.BookScriptLaws.{IsBookCovered, IsSaidOver, CoversSince, SaysOverExactly}
 
 -- Two weaker laws of a state `s`, a later state `t` and the lines that are written between them.
--- Both suppose that each link is covered in `s`. The first law: if no base batch was accepted in
--- between, each link is covered in `t`. The second law: each link is covered in `t`, or its `over`
+-- Both suppose that each link is covered in `s`. The first law: if no base batch was accepted and no
+-- placement restored in between, each link is covered in `t`. The second law: each link is covered in `t`, or its `over`
 -- line, which reports too little bandwidth, is among the lines.
 pub record ObeysWeakerLaws (s : BookRunState) (lines : List ℕ) (t : BookRunState) : Type 0 where
-  pub keeps : t.batches ≡ s.batches → IsBookCovered s.book → IsBookCovered t.book
+  pub keeps : changers t ≡ changers s → IsBookCovered s.book → IsBookCovered t.book
   pub says : IsBookCovered s.book → (l : Link) (priority : ℕ) → IsLinkOf t.book.base l → priority < 8
       → IsCovered t.book.placements l priority ⊎ IsSaidOver lines l priority
 
@@ -75,6 +75,7 @@ abbrev pub book_with : ℕ → ℕ → ℕ → ℕ → List Placement → BookRu
 book_with batches version left right placements = record {
   book = record { base = base_with left right; version = version; placements = placements };
   batches = batches;
+  restored = 0;
   changes = [];
   answers = 1;
   refused = 0;

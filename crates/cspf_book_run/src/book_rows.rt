@@ -1,18 +1,22 @@
 //! The state of a run of a book: the rows of its base, with the book as their sink, and how many
-//! rows were read. Each row is answered from this state. `place` and `release` rows go to the book.
+//! rows were read. Each row is answered from this state. Rows about placements go to the book.
 
 ghost use Rattle.std.specs.Prelude.{◌≡◌, ◌+◌, ◌<◌, ◌≤◌, [], false, IfOk, OnErr};
 ghost use Rattle.csv.specs.Records.{fields_of};
 
 use crate::book_row::BookRow;
+use crate::book_row_error::{BookRowError, refused_book_row};
 use crate::book_sink::BookSink;
 use crate::line::{TextResult, refused_place, refused_release};
+use crate::placement_line::{
+    left_line, refused_held, refused_left, refused_offer, refused_show, show_line,
+};
 use crate::row_text::row_text;
-use cspf_book::Book;
+use cspf_addr::Addr;
+use cspf_book::{Book, Placement};
 use cspf_model::{Request, one_refusal};
-use cspf_rows::RowError;
 use cspf_solve::Summary;
-use cspf_stream::{Answering, Ending, Rows, Step, refused_row};
+use cspf_stream::{Answering, Ending, Rows, Step};
 use csv::ByteRecord;
 use std::alloc::{AllocError, Global};
 use std::io::Write;
@@ -20,8 +24,8 @@ use std::io::Write;
 /// The state of a run between two rows. Only the memory of the book grows with the number of rows.
 pub struct BookRows<K> {
     /// The book with `keep`, the writer of accepted rows, the open changes, and two counts.
-    /// `answers` counts the answers to `ask` and `place` rows together. `refused` counts the
-    /// refusals of rows that couldn't be read, of batches, and of `place` and `release` rows.
+    /// `answers` counts the answers to `ask`, `place` and `offer` rows together. `refused` counts the
+    /// refusals of rows that couldn't be read, of batches, and of rows about placements.
     rows: Rows<BookSink<K>>,
     /// How many rows were read.
     read: u64,
@@ -47,9 +51,9 @@ impl<K: Write> Answering<()> for BookRows<K> {
         place: u64,
         fields: &ByteRecord,
     ) -> Result<Vec<u8>, AllocError> {
-        let row = BookRow::read(fields);
+        let row = BookRow::read(alloc, fields)?;
         self.read += 1;
-        self.line_of(alloc, place, fields, &row)
+        self.line_of(alloc, place, fields, row)
     }
 }
 
@@ -114,6 +118,8 @@ impl<K> BookRows<K> {
 }
 
 impl<K: Write> BookRows<K> {
+    ghost use Rattle.std.specs.Prelude.{ℕ, List};
+    ghost use Rattle.cspf_book.specs.PlacedRoutes.{ConnectsItsEnds};
     ghost use Rattle.cspf_book_run.specs.declared.book_row.BookRow.TheVariants as book_row;
     ghost use Rattle.cspf_stream.specs.RowCounts.{CanCountOneMore, GrowsByOneAtMost};
     ghost use Rattle.cspf_book_run.specs.BookStates.{IsReadable, BookLeads};
@@ -126,14 +132,14 @@ impl<K: Write> BookRows<K> {
         alloc: Global,
         place: u64,
         fields: &ByteRecord,
-        row: &Result<BookRow, RowError>,
+        row: Result<BookRow, BookRowError>,
     ) -> TextResult
         requires few { CanCountOneMore self.old.rows }
-        requires row { IfOk row.now IsReadable }
+        requires row { IfOk row IsReadable }
         ensures answered { IfOk result (λ line. BookLeads self.old.rows self.new.rows
-            (λ s t. IsAnsweredDone K.contents place s (fields_of fields.now) row.now line.items t
+            (λ s t. IsAnsweredDone K.contents place s (fields_of fields.now) row line.items t
             self.old.rows.sink.keeping self.new.rows.sink.keeping)) }
-        ensures lost { OnErr result (IsAnsweredLost K.contents (fields_of fields.now) row.now
+        ensures lost { OnErr result (IsAnsweredLost K.contents (fields_of fields.now) row
             self.old.rows self.new.rows) }
         ensures counts { GrowsByOneAtMost self.old.rows self.new.rows }
         ensures read { self.new.read ≡ self.old.read }
@@ -141,7 +147,7 @@ impl<K: Write> BookRows<K> {
         match row {
             Ok(row) => self.take_row(alloc, fields, row),
             Err(error) => {
-                let line = refused_row(alloc, place, *error)?;
+                let line = refused_book_row(alloc, place, error)?;
                 self.rows.refused += 1;
                 Ok(line)
             }
@@ -149,13 +155,13 @@ impl<K: Write> BookRows<K> {
     }
 
     /// Answers a row whose fields could be read, and returns the lines of the answer.
-    fn take_row(&mut self, alloc: Global, fields: &ByteRecord, row: &BookRow) -> TextResult
+    fn take_row(&mut self, alloc: Global, fields: &ByteRecord, row: BookRow) -> TextResult
         requires few { CanCountOneMore self.old.rows }
-        requires row { IsReadable row.now }
+        requires row { IsReadable row }
         ensures answered { IfOk result (λ line. BookLeads self.old.rows self.new.rows
-            (λ s t. IsRowDone K.contents s (fields_of fields.now) row.now line.items t
+            (λ s t. IsRowDone K.contents s (fields_of fields.now) row line.items t
             self.old.rows.sink.keeping self.new.rows.sink.keeping)) }
-        ensures lost { OnErr result (IsRowLost K.contents (fields_of fields.now) row.now
+        ensures lost { OnErr result (IsRowLost K.contents (fields_of fields.now) row
             self.old.rows self.new.rows) }
         ensures counts { GrowsByOneAtMost self.old.rows self.new.rows }
         ensures read { self.new.read ≡ self.old.read }
@@ -163,9 +169,13 @@ impl<K: Write> BookRows<K> {
         // Law: a batch that the table refuses doesn't fit.
         one_refusal();
         match row {
-            BookRow::Base(row) => self.rows.take(&(), alloc, Step::of(row)),
-            BookRow::Place { request, hold } => self.place(alloc, fields, request, *hold),
-            BookRow::Release { id } => self.release(alloc, fields, *id),
+            BookRow::Base(row) => self.rows.take(&(), alloc, Step::of(&row)),
+            BookRow::Place { request, hold } => self.place(alloc, fields, &request, hold),
+            BookRow::Release { id } => self.release(alloc, fields, id),
+            BookRow::Held { placement } => self.restore(alloc, fields, placement),
+            BookRow::Offer { request, hold } => self.offer(alloc, &request, hold),
+            BookRow::Show { id } => self.show(alloc, id),
+            BookRow::Left { from, local } => self.left(alloc, from, local),
         }
     }
 
@@ -220,6 +230,98 @@ impl<K: Write> BookRows<K> {
             Err(why) => {
                 self.rows.refused += 1;
                 refused_release(alloc, id, why)
+            }
+        }
+    }
+
+    /// Restores a placement, or refuses the `held` row.
+    fn restore(&mut self, alloc: Global, fields: &ByteRecord, placement: Placement) -> TextResult
+        requires few { CanCountOneMore self.old.rows }
+        requires ends { ConnectsItsEnds placement }
+        ensures answered { IfOk result (λ line. BookLeads self.old.rows self.new.rows
+            (λ s t. IsRowDone K.contents s (fields_of fields.now) (book_row.Held placement)
+            line.items t self.old.rows.sink.keeping self.new.rows.sink.keeping)) }
+        ensures lost { OnErr result (IsRowLost K.contents (fields_of fields.now)
+            (book_row.Held placement) self.old.rows self.new.rows) }
+        ensures counts { GrowsByOneAtMost self.old.rows self.new.rows }
+        ensures read { self.new.read ≡ self.old.read }
+    {
+        let text = row_text(alloc, fields)?;
+        let id = placement.request.id;
+        let found = self.rows.sink.restore(alloc, text, placement)?;
+        match found {
+            Ok(lines) => Ok(lines),
+            Err(why) => {
+                self.rows.refused += 1;
+                refused_held(alloc, id, why)
+            }
+        }
+    }
+
+    /// Answers a request with the holding priority `hold` as `place` would, or refuses the `offer`
+    /// row. Nothing is placed.
+    fn offer(&mut self, alloc: Global, request: &Request, hold: u8) -> TextResult
+        requires few { CanCountOneMore self.old.rows }
+        requires hold { hold < 8 }
+        ensures answered { (fields : List (List ℕ)) → IfOk result (λ line.
+            BookLeads self.old.rows self.new.rows
+            (λ s t. IsRowDone K.contents s fields (book_row.Offer request.now hold)
+            line.items t self.old.rows.sink.keeping self.new.rows.sink.keeping)) }
+        ensures lost { OnErr result (self.new.rows.sink ≡ self.old.rows.sink) }
+        ensures counts { GrowsByOneAtMost self.old.rows self.new.rows }
+        ensures read { self.new.read ≡ self.old.read }
+    {
+        let found = self.rows.sink.offer(alloc, request, hold)?;
+        match found {
+            Ok(line) => {
+                self.rows.answers += 1;
+                Ok(line)
+            }
+            Err(why) => {
+                self.rows.refused += 1;
+                refused_offer(alloc, request.id, why)
+            }
+        }
+    }
+
+    /// Shows the placement with this id, or refuses the `show` row.
+    fn show(&mut self, alloc: Global, id: u64) -> TextResult
+        requires few { CanCountOneMore self.old.rows }
+        ensures answered { (fields : List (List ℕ)) → IfOk result (λ line.
+            BookLeads self.old.rows self.new.rows
+            (λ s t. IsRowDone K.contents s fields (book_row.Show id)
+            line.items t self.old.rows.sink.keeping self.new.rows.sink.keeping)) }
+        ensures lost { OnErr result (self.new.rows.sink ≡ self.old.rows.sink) }
+        ensures counts { GrowsByOneAtMost self.old.rows self.new.rows }
+        ensures read { self.new.read ≡ self.old.read }
+    {
+        let book = self.rows.sink.book();
+        match book.placement(id) {
+            Some(placement) => show_line(alloc, book.version(), placement),
+            None => {
+                self.rows.refused += 1;
+                refused_show(alloc, id)
+            }
+        }
+    }
+
+    /// Shows the figures of the base's link with this key, or refuses the `left` row.
+    fn left(&mut self, alloc: Global, from: Addr, local: Addr) -> TextResult
+        requires few { CanCountOneMore self.old.rows }
+        ensures answered { (fields : List (List ℕ)) → IfOk result (λ line.
+            BookLeads self.old.rows self.new.rows
+            (λ s t. IsRowDone K.contents s fields (book_row.Left from local)
+            line.items t self.old.rows.sink.keeping self.new.rows.sink.keeping)) }
+        ensures lost { OnErr result (self.new.rows.sink ≡ self.old.rows.sink) }
+        ensures counts { GrowsByOneAtMost self.old.rows self.new.rows }
+        ensures read { self.new.read ≡ self.old.read }
+    {
+        let book = self.rows.sink.book();
+        match book.left(from, local) {
+            Some(figures) => left_line(alloc, from, local, book.version(), &figures),
+            None => {
+                self.rows.refused += 1;
+                refused_left(alloc, from, local)
             }
         }
     }

@@ -1,13 +1,15 @@
-//! The sink of a run: a book, which accepts the base batches that fit, answers requests, and places
-//! and releases routes. The text of each accepted row is written before the book has its version.
+//! The sink of a run: a book, which accepts the base batches that fit, answers requests, and places,
+//! releases and restores routes. The text of each accepted row is written before the book has its version.
 
 ghost use Rattle.std.specs.Prelude.{◌≡◌, ◌<◌, ◌≤◌, false, IfOk, IfErr, OnOk, OnErr};
 
+use crate::held_refusal::HeldRefusal;
 use crate::keeper::{Keeper, Unkept};
 use crate::limits::MOST_PLACING_VERSIONS;
 use crate::line::{base_lines, released};
+use crate::placement_line::{held_lines, offer_line};
 use crate::refusals::{PlaceRefusal, ReleaseRefusal};
-use cspf_book::{AbsorbError, Book, ReleaseError, VersionError};
+use cspf_book::{AbsorbError, Book, Placement, ReleaseError, VersionError};
 use cspf_ero::reply_line;
 use cspf_model::{Batch, Request};
 use cspf_rows::batch_text;
@@ -118,8 +120,10 @@ impl<K> BookSink<K> {
 }
 
 impl<K: Write> BookSink<K> {
-    ghost use Rattle.cspf_book_run.specs.BookScript.{BookRunState, IsPlaceAnswered};
+    ghost use Rattle.cspf_book.specs.PlacedRoutes.{ConnectsItsEnds};
+    ghost use Rattle.cspf_book_run.specs.BookScript.{BookRunState, IsPlaceAnswered, IsOfferAnswered};
     ghost use Rattle.cspf_book_run.specs.BookSinks.{IsPlacingKept, IsPlaceUnkept, IsReleased, IsReleaseUnkept};
+    ghost use Rattle.cspf_book_run.specs.BookSinks.{IsHeldSaid, IsHeldUnkept, IsOfferUnkept};
     ghost use Rattle.cspf_book_run.specs.Keeping.{IsTextWritten};
 
     /// Places a request with the holding priority `hold`. Returns the line of the `place` row, or
@@ -206,6 +210,80 @@ impl<K: Write> BookSink<K> {
                     Unkept::Failed { written } => Ok(Err(ReleaseRefusal::Keep { written })),
                     Unkept::Memory => Err(AllocError),
                 },
+            },
+        }
+    }
+
+    /// Restores a placement. Returns the lines of the `held` row, which are made before the book
+    /// has the placement, or why the row is refused. A refused row leaves the book unchanged. The
+    /// row's text is written to `keep` first.
+    pub(crate) fn restore(
+        &mut self,
+        alloc: Global,
+        text: Vec<u8>,
+        placement: Placement,
+    ) -> Result<Result<Vec<u8>, HeldRefusal>, AllocError>
+        requires { ConnectsItsEnds placement }
+        ensures restored { IfOk result (λ found. IfOk found (λ lines. (s : BookRunState)
+            → self.old.book ≡ s.book → IsHeldSaid s placement lines.items self.new.book)) }
+        ensures kept { IfOk result (λ found. OnOk found (
+            IsPlacingKept K.contents self.old text.items self.new)) }
+        ensures refused { IfOk result (λ found. IfErr found (λ why. (s : BookRunState)
+            → self.old.book ≡ s.book → IsHeldUnkept K.contents s placement text.items
+            self.old.keeping why self.new.keeping)) }
+        ensures same { IfOk result (λ found. OnErr found (self.new.book ≡ self.old.book)) }
+        ensures batches { self.new.batches ≡ self.old.batches }
+        ensures lost { OnErr result (self.new.keeping ≡ self.old.keeping) }
+    {
+        if self.keeper.keeping.stopped {
+            return Ok(Err(HeldRefusal::Stopped));
+        }
+        if self.book.version() >= MOST_PLACING_VERSIONS {
+            return Ok(Err(HeldRefusal::Exhausted));
+        }
+        let over = self.book.made_over(alloc, &placement)?;
+        let version = self.book.version() + 1;
+        let lines = held_lines(alloc, &over, placement.request.id, version)?;
+        self.keeper.text = text;
+        match self.book.restore(&mut self.keeper, &(), alloc, placement) {
+            Ok(()) => Ok(Ok(lines)),
+            Err(error) => match HeldRefusal::of_restoring(error) {
+                Some(refusal) => Ok(Err(refusal)),
+                None => Err(AllocError),
+            },
+        }
+    }
+
+    /// Answers a request as `place` would. Returns the line of the `offer` row, or why the row is
+    /// refused. Nothing is placed, and nothing is written to `keep`.
+    pub(crate) fn offer(
+        &mut self,
+        alloc: Global,
+        request: &Request,
+        hold: u8,
+    ) -> Result<Result<Vec<u8>, PlaceRefusal>, AllocError>
+        requires { hold < 8 }
+        ensures answered { IfOk result (λ found. IfOk found (λ line. (s : BookRunState)
+            → self.old.book ≡ s.book → IsOfferAnswered s request.now hold line.items)) }
+        ensures going { IfOk result (λ found. OnOk found (self.old.keeping.stopped ≡ false)) }
+        ensures refused { IfOk result (λ found. IfErr found (λ why. (s : BookRunState)
+            → self.old.book ≡ s.book → IsOfferUnkept s request.now self.old.keeping why)) }
+        ensures same { self.new ≡ self.old }
+    {
+        if self.keeper.keeping.stopped {
+            return Ok(Err(PlaceRefusal::Stopped));
+        }
+        if self.book.version() >= MOST_PLACING_VERSIONS {
+            return Ok(Err(PlaceRefusal::Exhausted));
+        }
+        match self.book.offer(alloc, request, hold) {
+            Ok(outcome) => {
+                let line = offer_line(alloc, request.id, self.book.version(), &outcome)?;
+                Ok(Ok(line))
+            }
+            Err(why) => match PlaceRefusal::of(why) {
+                Some(refusal) => Ok(Err(refusal)),
+                None => Err(AllocError),
             },
         }
     }

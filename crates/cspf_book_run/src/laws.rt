@@ -1,7 +1,7 @@
 //! Laws that follow from the definitions of `specs/` alone. Each function here does nothing: its
 //! contract is the law.
 ghost use Rattle.cspf_book_run.specs.BookScript.{book_start};
-ghost use Rattle.cspf_book_run.specs.BookScriptLaws.{BooksHaveOneReply, IsBookCovered, IsBookInRange, RowsCoverSince, BaseLinesAreExact, OnlyBatchesSayOver, RowsKeepRange};
+ghost use Rattle.cspf_book_run.specs.BookScriptLaws.{BooksHaveOneReply, IsBookCovered, IsBookInRange, RowsCoverSince, BaseLinesAreExact, OnlyChangersSayOver, RowsKeepRange};
 ghost use Rattle.cspf_book_run.specs.KeptLaws.{KeptIsTheBook, KeptRunIsTheBook, RunsStopOnce};
 ghost use Rattle.cspf_book_run.specs.WrongRuns.{WeakerLawsFollow, ExcuseEndsWithCover, OtherLinkIsNoExcuse, OtherPriorityIsNoExcuse, UntrueOverIsRefused};
 
@@ -28,24 +28,26 @@ pub fn one_reply_of_books()
 /// is covered. Suppose that a link is covered in some state, or isn't in the base in this state.
 /// After any further rows, the link is covered, or the lines of these rows include its `over` line.
 /// A base batch has the `over` line of a link and a priority exactly if it sets this link with too
-/// little bandwidth at this priority. No other row has an `over` line.
+/// little bandwidth at this priority. Apart from base batches, only a row that restores a placement
+/// has an `over` line.
 pub fn covered_books()
     ensures start { IsBookCovered book_start.book }
     ensures since { RowsCoverSince }
     ensures exact { BaseLinesAreExact }
-    ensures only { OnlyBatchesSayOver }
+    ensures only { OnlyChangersSayOver }
 {
     // Law: a covered link stays covered when a request is placed or a placement is released. When
-    // the base changes, a covered link stays covered, or is in the list `over`. Law: no two
-    // addresses have the same text.
+    // the base changes, a covered link stays covered, or is in the list `over`. When a placement is
+    // restored, it stays covered, or is in the list `made_over`. Law: no two addresses have the same
+    // text.
     cspf_book::covered_links();
     addresses_are_spelled_once();
 }
 
-/// Law: in each state of a run, the bandwidth that the placements count on a link's key at a
-/// priority is below 2^64. So this sum would fit into a `u64`, which is the type of the base's
+/// Law: as long as no placement is restored, the bandwidth that the placements count on a link's key
+/// at a priority is below 2^64. So this sum would fit into a `u64`, which is the type of the base's
 /// bandwidths. This is true even if base batches lower the bandwidth of links below what the
-/// placements hold.
+/// placements hold. A restored placement isn't compared with the base, so it may count more.
 pub fn sums_stay_small()
     ensures start { IsBookInRange book_start }
     ensures kept { RowsKeepRange }

@@ -2,6 +2,7 @@ mod absorbing;
 mod addresses;
 mod graph;
 mod heads;
+mod held_rows;
 mod hops;
 mod masks;
 mod memory;

@@ -27,6 +27,13 @@ Rows of standard input: put, drop, node, end and ask as for routed solve, and
       hold to 7 from then on; it takes the place of an earlier placement of the same id
   release,id
       takes out the placement with this id
+  held,id,from,to,hold,bandwidth,exclude_any,include_any,include_all,hops,route
+      restores a placement with the route that it has already, without a search; route has 16 hexadecimal
+      digits for each link: the local address, and the router that the link leads to
+  offer,id,from,to,hold,bandwidth,exclude_any,include_any,include_all,hops
+      answers as place would, and places nothing
+  show,id  left,router,local
+      show a placement, and what is left of a link
 
 The end rows number the batches of the base from 1. Placements leave less of the base's bandwidth. What
 is asked and what is placed sees only the rest, at its own setup priority or, where it is placed, at 7.
@@ -41,16 +48,23 @@ Lines of standard output, each as soon as it is known:
   place ID vV route ..       a request is placed, which makes version V; or it is answered none,
                              unknown-from or unknown-to at version V, and nothing changes
   released ID vV             a placement is released, which makes version V
-  place ID refused: ..       twice, long, full, links or exhausted; release ID refused: absent or exhausted
+  held ID vV                 a placement is restored, which makes version V; before it come over lines
+  offer ID vV route ..       what place would be answered at version V
+  show ID vV from=.. to=..   a placement: hold, bandwidth, links, and ROUTER,LOCAL of each link
+  left ROUTER,LOCAL vV ..    base=, counted= and left=, each with bandwidths at the priorities 0 to 7
+  place ID refused: ..       twice, long, full, links or exhausted, and so for offer; release ID refused:
+                             absent or exhausted; held ID refused: same-id, full, long, twice, links or
+                             exhausted; show and left refused: absent
   row N refused: ..          and batch N refused: .., unended K, too many rows
 
 With --keep the accepted rows go to a new file, each before its lines: of a base batch its rows with the
-end row, and each row that places a route or releases. A new run makes the same book of them, and goes on:
+end row, and each row that places a route, releases or restores. A new run makes the same book of them,
+and goes on:
   cat FILE - | routed book --keep NEXT
 A file that is there already is left as it is. If a write to it fails after W bytes of a row, or of a
-batch, the row is refused by keep W, and each later end, place and release row by stopped; ask rows are
-answered on. The W bytes may stay at the end of the file. Before it is read, take out what follows its
-last whole line that begins with end, place or release.
+batch, the row is refused by keep W, and each later end, place, held, offer and release row by stopped;
+other rows are answered on. The W bytes may stay at the end of the file. Before it is read, take out what
+follows its last whole line that begins with end, place, held or release.
 
 Rows may be of any length that fits in memory. Standard output must be in blocking mode. If its reader
 exits early (routed book | head -1), the status is 3. A file that reaches the limit of its size
@@ -59,7 +73,7 @@ exits early (routed book | head -1), the status is 3. A file that reaches the li
 Status:
   0  everything was accepted
   1  the command line was refused
-  2  a row, a batch, a placing or a release was refused, or there were more than 1,000,000 rows
+  2  a row, a batch, or a row about a placement was refused, or there were more than 1,000,000 rows
   3  out of memory, standard input or output failed, or the file of --keep exists already or can't be
      made; the last line of standard error is routed: stopped, and with --explain the line before it
      says why

@@ -1,5 +1,4 @@
 use Rattle.cspf_rows.proofs.BatchRecords.{read_back}
-use Rattle.cspf_book_run.specs.KeptLaws.{KeptIsTheBook}
 use Rattle.cspf_book_run.proofs.KeptBook.{kept_is_book}
 use Rattle.cspf_book_run.proofs.StoppedRuns.{kept_run_is_book}
 use Rattle.cspf_book_run.proofs.laws.kept_is_the_book.Goals as goal

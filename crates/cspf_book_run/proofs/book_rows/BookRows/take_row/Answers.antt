@@ -1,6 +1,7 @@
 use Rattle.std.proofs.lemmas.Result.{IfOk-weaker, on_err_weaker}
 use Rattle.csv.specs.Records.{fields_of}
-use Rattle.cspf_rows.specs.Steps.{step_of}
+use Rattle.std.proofs.Common.{inl, ap}
+use Rattle.cspf_book_run.specs.BookSinks.{BookSinkState}
 use Rattle.cspf_book_run.proofs.BookSteps.{base_row, base_lost}
 use Rattle.cspf_book_run.proofs.book_rows.BookRows.take_row.Goals as goal
 
@@ -29,3 +30,27 @@ returns-in-Release-clause-answered g c = rw c.in-Release.is c.release.ensures.an
 
 pub returns-in-Release-clause-lost : goal.returns-in-Release-clause-lost
 returns-in-Release-clause-lost g c = rw c.in-Release.is c.release.ensures.lost
+
+pub returns-in-Held-clause-answered : goal.returns-in-Held-clause-answered
+returns-in-Held-clause-answered g c = rw c.in-Held.is c.restore.ensures.answered
+
+pub returns-in-Held-clause-lost : goal.returns-in-Held-clause-lost
+returns-in-Held-clause-lost g c = rw c.in-Held.is c.restore.ensures.lost
+
+pub returns-in-Offer-clause-answered : goal.returns-in-Offer-clause-answered
+returns-in-Offer-clause-answered g c = rw c.in-Offer.is (c.offer.ensures.answered (fields_of c.args.fields.now))
+
+pub returns-in-Offer-clause-lost : goal.returns-in-Offer-clause-lost
+returns-in-Offer-clause-lost g c = rw c.in-Offer.is (on_err_weaker c.offer.result (λ same s kept. inl (ap (λ (x : BookSinkState g.row.K.Denot). x.keeping) same)) c.offer.ensures.lost)
+
+pub returns-in-Show-clause-answered : goal.returns-in-Show-clause-answered
+returns-in-Show-clause-answered g c = rw c.in-Show.is (c.show.ensures.answered (fields_of c.args.fields.now))
+
+pub returns-in-Show-clause-lost : goal.returns-in-Show-clause-lost
+returns-in-Show-clause-lost g c = rw c.in-Show.is (on_err_weaker c.show.result (λ same s kept. inl (ap (λ (x : BookSinkState g.row.K.Denot). x.keeping) same)) c.show.ensures.lost)
+
+pub returns-in-Left-clause-answered : goal.returns-in-Left-clause-answered
+returns-in-Left-clause-answered g c = rw c.in-Left.is (c.left.ensures.answered (fields_of c.args.fields.now))
+
+pub returns-in-Left-clause-lost : goal.returns-in-Left-clause-lost
+returns-in-Left-clause-lost g c = rw c.in-Left.is (on_err_weaker c.left.result (λ same s kept. inl (ap (λ (x : BookSinkState g.row.K.Denot). x.keeping) same)) c.left.ensures.lost)

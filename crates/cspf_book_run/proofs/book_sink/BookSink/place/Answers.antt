@@ -1,4 +1,4 @@
-use Rattle.std.proofs.Common.{◌≡◌, ◌<◌, List, ℕ, sym, ap, subst, refl, ◌∙◌, arith}
+use Rattle.std.proofs.Common.{◌≡◌, ◌<◌, sym, ap, subst, refl, ◌∙◌, arith}
 use Rattle.cspf_model.specs.Outcome.{answer_of}
 use Rattle.cspf_book_run.specs.BookLines.{IsPlaceReply}
 use Rattle.cspf_book_run.specs.BookScript.{BookRunState, IsPlaceAnswered}

@@ -1,7 +1,7 @@
 use Rattle.std.proofs.Common.{arith}
 use Rattle.std.proofs.lemmas.Grind.{common_steps}
-use Rattle.cspf_book_run.proofs.BookRowLemmas.{lowest_setup}
-use Rattle.cspf_book_run.proofs.book_row.BookRow.place.Goals as goal
+use Rattle.cspf_book_run.proofs.RowRequests.{lowest_setup}
+use Rattle.cspf_book_run.proofs.book_row.held_request.Goals as goal
 
 pub returns-in-Ask : goal.returns-in-Ask
 returns-in-Ask c =
