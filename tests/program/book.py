@@ -336,7 +336,7 @@ def refused_calls(program, checks):
         return
     refuser, tried = Refuser(), 0
     runs = [Rows(program, refuser.room.name, name, held(os.path.join(SCRIPTS, f"{name}.rows")))
-            for name in ("over_and_lost", "a_route_that_uses_a_link_twice")]
+            for name in ("over_and_lost", "a_route_that_uses_a_link_twice", "over_of_a_held_row", "show_and_left_before_and_after")]
     runs.append(Rows(program, refuser.room.name, "drawn", drawn_stream(2).encode()))
     for run in runs:
         for flags in REFUSALS:
