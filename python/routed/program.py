@@ -44,7 +44,7 @@ def failed(name: str, why: object, status: int = 1, advice: str = "") -> int:
         return PIPE_CLOSED
     if isinstance(why, OSError) and why.strerror:
         why = f"{why.filename}: {why.strerror}" if why.filename is not None else why.strerror
-    print(f"{name}: {why}; {advice}" if advice else f"{name}: {advised(str(why))}", file=sys.stderr)
+    print(f"{name}: {why}; {advice}" if advice else advised(f"{name}: {why}"), file=sys.stderr)
     return status
 
 

@@ -16,8 +16,11 @@ def made_of(rows):
         elif kind == "end":
             open_ones, changes = changes, []
             book.end(open_ones, content)
-        elif kind == "place":
-            book.place(content)
+        elif kind in ("place", "held"):
+            if kind == "place":
+                book.place(content)
+            else:
+                book.restore(content["request"], content["route"])
             placed = {placement.request["id"] for placement in book.placements}
             unplaced = (unplaced | {content["id"]}) - placed
         elif kind == "release":
@@ -25,8 +28,12 @@ def made_of(rows):
     return book, unplaced
 
 
-def cost(placement):
-    return sum(link["metric"] for link in placement.route)
+def cost(base, placement):
+    """What a route cost when it was placed. That of a held row costs what it does in the base, None where the base hasn't all its links."""
+    links = [link if "metric" in link else base.links.get(key_of(link)) for link in placement.route]
+    if any(link is None or link["to"] != old["to"] for link, old in zip(links, placement.route)):
+        return None
+    return sum(link["metric"] for link in links)
 
 
 def full_of(book, least):
@@ -50,8 +57,8 @@ def plain_book(rows, fail, capacities=None):
     stale = sorted(name for name, placement in at_first.items() if not books.admits(book.base, placement))
     circuits, failing = failing_of(book.base, fail)
     full = full_of(book, least)
-    taken = {key for name, placement in at_first.items() if name not in stale for link in placement.route
-             for key in (key_of(link), (link["to"], link["remote"]))}
+    taken = {key for name, placement in at_first.items() if name not in stale for old in placement.route
+             for link in (book.base.links[key_of(old)],) for key in (key_of(link), (link["to"], link["remote"]))}
     tried = [scenario for scenario in failing if taken & {key for _, keys in scenario for key in keys}]
     yield (f"network version={book.version} routers={len(book.base.routers())} links={len(book.base.links)} circuits={circuits} "
            f"tunnels={len(at_first) + len(unplaced)}")
@@ -66,7 +73,7 @@ def plain_book(rows, fail, capacities=None):
         drops = [("drop", {"from": key[0], "local": key[1]}) for key in sorted(out)]
         lines = own.end(drops, {"number": book.batches + 1, "count": len(drops)})
         for name in [int(line.split()[1]) for line in reversed(lines) if line.startswith("lost ")]:
-            before = at_first[name]
+            before, was = at_first[name], cost(book.base, at_first[name])
             try:
                 line = own.place(before.request)
                 word = line.split()[3]
@@ -74,11 +81,12 @@ def plain_book(rows, fail, capacities=None):
                 word = str(words)
             if word == "route":
                 now = next(placement for placement in own.placements if placement.request["id"] == name)
-                again.append((before.request, cost(now) - cost(before)))
-                said.append(f"placed tunnel {name} cost={cost(now)} was={cost(before)} more={cost(now) - cost(before)}")
+                more = cost(own.base, now) - was
+                again.append((before.request, more))
+                said.append(f"placed tunnel {name} cost={was + more} was={was} more={more}")
             else:
                 gone.append(before.request)
-                said.append(f"lost tunnel {name} {word} was={cost(before)}")
+                said.append(f"lost tunnel {name} {word} was={was}")
         fuller = [words for key, words in full_of(own, least).items() if key not in full]
         most = max([more for _, more in again] + [0])
         what = " and ".join(part for part, _ in scenario)

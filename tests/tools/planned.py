@@ -10,15 +10,15 @@ import subprocess
 import tempfile
 
 from checks import TOOLS, TOP
-from program.drawn_books import Drawn
+from program.drawn_books import ALL, USUAL, Drawn
 from program.serving import PATIENCE
 from reference import books, formats
 from reference.formats import address_number, address_text
 from reference.runs import publish, whole_batches
-from reference.swept_books import made_of, plain_book
+from reference.swept_books import cost, made_of, plain_book
 from reference.sweeps import plain
 from tools.drawn_sweeps import drawn
-from tools.ring import A, AB, ASKS, B, BEFORE, C, D, OF_CIRCUITS, RING, SWEEP, circuit, link, wrapped
+from tools.ring import A, AB, AD, ASKS, B, BC, BEFORE, C, CD, D, OF_CIRCUITS, RESTORED, RING, SWEEP, circuit, journal, link, wrapped
 
 DRAWN, STEPS = 12, 60  # books, and the steps of each
 MASKS = "0x0,0x0,0x0"
@@ -46,19 +46,26 @@ def nsfnet_book():
 
 
 def accepted(rows):
-    """The rows of a book that change it, and place rows without a route. Of the rows of a stream none is refused then."""
+    """The rows of a book that change it, place rows without a route, and rows that only look. Of the rows of a stream none is refused
+    then."""
     kept = []
     for fields, (lines, text) in zip(formats.records(rows), books.steps(rows)[1]):
-        if text or fields[0] == "place" and "refused" not in lines[0]:
+        if text or fields[0] in ("place", "offer", "show", "left") and "refused" not in lines[0]:
             kept.append(text or ",".join(fields) + "\n")
     return "".join(kept)
 
 
 def drawn_book(seed):
-    book = Drawn(seed)
+    """Of each two books one has rows of all kinds."""
+    book = Drawn(seed, ALL if seed % 2 else USUAL)
     for _ in range(STEPS):
         book.step()
     return accepted("".join(f"{row}\n" for row in book.rows))
+
+
+def held_of(rows):
+    """The ids of the tunnels of a book that are on the route of their held row."""
+    return [str(it.request["id"]) for it in made_of(rows)[0].placements if "metric" not in it.route[0]]
 
 
 def capacities_of(draw, links):
@@ -70,7 +77,7 @@ def capacities_of(draw, links):
 
 def of_books(program, checks, room):
     """The example and drawn books, whole outputs with utilisation, by one job and by three."""
-    draw, seen = random.Random(5), ""
+    draw, seen, restored = random.Random(5), "", 0
     cases = [("NSFNET", nsfnet_book(), fail, jobs) for fail, jobs in (("circuits", "1"), ("circuits", "3"), ("routers", "3"))]
     cases += [(f"book {seed}", drawn_book(seed), ("circuits", "routers", "pairs")[seed % 3], "2") for seed in range(DRAWN)]
     for name, rows, fail, jobs in cases:
@@ -79,6 +86,8 @@ def of_books(program, checks, room):
         words = ["--book", "rows", "--fail", fail, "--jobs", jobs, "--capacity", "capacity"]
         checks.same(f"{name}, {fail}, {jobs} jobs", swept(program.path, room, *words, rows=rows, capacity=lines), (0, wanted, ""))
         seen += wanted
+        restored += len(re.findall(rf"(?m)^scenario \d+ (?:lost|placed) tunnel (?:{'|'.join(held_of(rows)) or '-'}) ", wanted))
+    checks.true("tunnels that were restored are placed again", restored > 20, restored)
     for words in ("before lost ", "before without ", "before full ", r"scenario \d+ placed ", r"scenario \d+ lost tunnel \d+ none ",
                   r"scenario \d+ full ", "more=-", "unknown-from", r"utilisation .* scenario "):
         checks.true(f"lines were seen with {words}", re.search(rf"(?m)^.*{words}", seen))
@@ -87,11 +96,14 @@ def of_books(program, checks, room):
 def by_the_program(program, checks, room):
     """Each scenario of a book is what `routed book` writes for the book's rows, the failure and the tunnels of the `lost` lines, the last
     one first; and each failure that it writes a `lost` line for is tried."""
-    for name, rows in (("NSFNET", nsfnet_book()), *((f"book {seed}", drawn_book(seed)) for seed in (1, 3))):
+    for name, rows in (("NSFNET", nsfnet_book()), *((f"book {seed}", drawn_book(seed)) for seed in (1, 2, 3))):
         base, _ = made_of(rows)
         first = program.run(["book"], rows.encode())[1].decode().splitlines()
-        asked = zip((row for row in rows.splitlines() if row.startswith("place,")), (line for line in first if line.startswith("place ")))
-        placed = {row.split(",")[1]: (row, line) for row, line in asked if " route " in line}
+        asked = zip((row for row in rows.splitlines() if row.startswith(("place,", "held,"))),
+                    (line for line in first if line.startswith(("place ", "held "))))
+        placed = {row.split(",")[1]: (",".join(["place", *row.split(",")[1:10]]), line) for row, line in asked
+                  if line.startswith("held ") or " route " in line}
+        costs = {str(it.request["id"]): cost(base.base, it) for it in base.placements}
         out = swept(program.path, room, "--book", "rows", rows=rows)[1].splitlines()
         tried = {tuple(line.split()[4:6]): line.split()[1] for line in out if re.match(r"scenario \d+ out ", line)}
         failing = [tuple(map(address_text, key)) for key in base.base.links]
@@ -114,10 +126,12 @@ def by_the_program(program, checks, room):
                 lines = program.run(["book"], (rows + failure + again).encode())[1].decode().splitlines()[-len(lost):]
                 wanted = []
                 for line in lines:
-                    tunnel, was = line.split()[1], int(re.search(r"cost=(\d+)", placed[line.split()[1]][1])[1])
+                    tunnel = line.split()[1]
+                    told = re.search(r"cost=(\d+)", placed[tunnel][1])
+                    was = int(told[1]) if told else costs[tunnel]
                     if " route " in line:
-                        cost = int(re.search(r"cost=(\d+)", line)[1])
-                        wanted.append(f"scenario {place} placed tunnel {tunnel} cost={cost} was={was} more={cost - was}")
+                        now = int(re.search(r"cost=(\d+)", line)[1])
+                        wanted.append(f"scenario {place} placed tunnel {tunnel} cost={now} was={was} more={now - was}")
                     else:
                         wanted.append(f"scenario {place} lost tunnel {tunnel} {line.split()[-1]} was={was}")
                 found = [line for line in out if re.match(rf"scenario {place} (lost|placed) ", line)]
@@ -199,6 +213,49 @@ def by_hand(program, checks, room):
                 [{"scenario": "1", "out": AB, "effect": "placed", "id": "7", "from": A, "to": C, "cost": "25", "was": "20", "more": "5"}])
 
 
+OF_RESTORED = f"""network version=5 routers=4 links=8 circuits=4 tunnels=4
+before lost tunnel 8
+before full {EAST} unreserved=100 counted=110 left=0
+before placed=4 without=0 lost=1 full=1
+scenario 1 out {AB}
+scenario 1 placed tunnel 7 cost=25 was=20 more=5
+scenario 1 lost tunnel 6 none was=10
+scenario 1 full {A} 10.0.14.1 {D} 10.0.14.4 unreserved=100 counted=90 left=10
+scenario 1 full {D} 10.0.34.4 {C} 10.0.34.3 unreserved=100 counted=90 left=10
+scenario 1 lost=1 placed=1 most=5 full=2
+scenario 2 out {AD}
+scenario 2 lost tunnel 5 none was=25
+scenario 2 lost=1 placed=0 most=0 full=0
+scenario 3 out {BC}
+scenario 3 placed tunnel 7 cost=25 was=20 more=5
+scenario 3 full {A} 10.0.14.1 {D} 10.0.14.4 unreserved=100 counted=90 left=10
+scenario 3 full {D} 10.0.34.4 {C} 10.0.34.3 unreserved=100 counted=90 left=10
+scenario 3 lost=0 placed=1 most=5 full=2
+scenario 4 out {CD}
+scenario 4 lost tunnel 5 none was=25
+scenario 4 lost=1 placed=0 most=0 full=0
+"""
+
+
+def restored(program, checks, room):
+    """Tunnels that held rows restored, and a link that has another address at its far end than when a tunnel was placed: both by hand."""
+    status, out, err = swept(program.path, room, "--book", "rows", rows=RESTORED)
+    checks.same("a book with restored tunnels", (status, out[:len(OF_RESTORED)], out.splitlines()[-1:], err),
+                (0, OF_RESTORED, ["scenarios=4 lost=3 placed=2 full=2"], ""))
+    cheaper = RING + RESTORED[len(RING):].splitlines(keepends=True)[0]
+    out = swept(program.path, room, "--book", "rows", rows=cheaper)[1]
+    checks.same("a restored tunnel whose next route is cheaper", [line for line in out.splitlines() if " tunnel 5 " in line],
+                [*(f"scenario {at} placed tunnel 5 cost=20 was=25 more=-5" for at in (1, 2)), "most failures 1 tunnel 5 lost=0 placed=2"])
+    other = "10.0.12.9"
+    for name, row in (("placed", f"place,1,{A},{B},0,60,{MASKS},\n"), ("restored", f"held,1,{A},{B},0,60,{MASKS},,0a000c0102020202\n")):
+        rows = journal(circuit(1, 2)) + row + link(A, "10.0.12.1", B, other) + link(B, other, A, "10.0.12.1") + "end,2,2\n"
+        out = swept(program.path, room, "--book", "rows", rows=rows)
+        found = [line for line in out[1].splitlines() if line.startswith("scenario")]
+        checks.same(f"a tunnel that was {name} before its link got another address", (out[0], found, out[2]), (0, [
+            f"scenario 1 out circuit {A} 10.0.12.1 {B} {other}", "scenario 1 lost tunnel 1 none was=10",
+            "scenario 1 lost=1 placed=0 most=0 full=0", "scenarios=1 lost=1 placed=0 full=0"], ""))
+
+
 def named_parts(program, checks, room):
     """Parts and pictures of lines with names are what they are without."""
     files = {"rows": RING, "asks": ASKS, "names": f"{A} North\n{D} South West\n"}
@@ -249,9 +306,14 @@ def refusals(program, checks, room):
     for name, book, words in (
             ("a torn book", RING + circuit(2, 4), "the book: unended 2; write an end row behind the last change"),
             ("a refused row", RING + "place,1\n",
-             "the book: row 10 refused: fields; a put row has 15 fields, an ask row 10, a drop, node or end row 3"),
-            ("a tunnel that isn't there", RING + "release,1\n", "the book: release 1 refused: absent"),
-            ("lines", "base 1 v1\n", "book: it is lines that routed or a tool has written, not rows")):
+             "the book: row 10 refused: fields; a put row has 15 fields, a held row 11, an ask, place or offer row 10, a drop, node, end "
+             "or left row 3, a release or show row 2"),
+            ("a tunnel that isn't there", RING + "release,1\n",
+             "the book: release 1 refused: absent; give the id of a tunnel that is placed"),
+            ("a tunnel that is there", RESTORED + RESTORED.splitlines()[-1],
+             "the book: held 8 refused: same-id; release the tunnel that has the id, or leave the row out"),
+            ("lines", "base 1 v1\n", "book: it is lines that routed or a tool has written, not rows"),
+            ("lines of a restored tunnel", "held 8 v5\n", "book: it is lines that routed or a tool has written, not rows")):
         found = swept(program.path, room, "--book", "book", book=book)
         checks.same(f"a book: {name}", found, (1, "", f"sweep: {words}\n"))
     for words, line in ((["--book", "book", "--dask", "tcp://one:1"], "a book is swept on this machine: "),
@@ -273,4 +335,4 @@ def refusals(program, checks, room):
 
 def planned(program, checks):
     with tempfile.TemporaryDirectory() as room:
-        checks.parts_in(room, (of_books, by_the_program, used, by_hand, named_parts, many_drops, refusals), program, checks)
+        checks.parts_in(room, (of_books, by_the_program, used, by_hand, restored, named_parts, many_drops, refusals), program, checks)

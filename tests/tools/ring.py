@@ -35,6 +35,15 @@ A, B, C, D = "1.1.1.1", "2.2.2.2", "3.3.3.3", "4.4.4.4"
 AB, AD, BC, CD = (f"circuit {one}.{one}.{one}.{one} 10.0.{one}{two}.{one} {two}.{two}.{two}.{two} 10.0.{one}{two}.{two}"
                   for one, two in ((1, 2), (1, 4), (2, 3), (3, 4)))
 RING = journal(circuit(1, 2), circuit(2, 3), circuit(3, 4), circuit(1, 4, 15, "0x2"))
+# A book of it. Tunnel 5 is restored on the longer way, 6 with more than there is, and 8 on a link that isn't there. Three rows only look.
+RESTORED = f"""{RING}held,5,{A},{C},0,60,{MASKS},,0a000e01040404040a00220403030303
+place,7,{A},{C},0,30,{MASKS},
+held,6,{A},{B},7,80,{MASKS},,0A000C0102020202
+offer,9,{A},{C},0,1,{MASKS},
+show,7
+left,{A},10.0.12.1
+held,8,{A},{B},0,0,{MASKS},,0a00630102020202
+"""
 ASKS = ask(1, A, C) + ask(2, A, B, setup=3) + ask(3, D, A, bandwidth=30, masks="0x0,0x2,0x0") + ask(4, A, C, bandwidth=101)
 FULL = "priority=7 asked=60 above=60 unreserved=100"
 A_TO_B = f"overbooked {A} 10.0.12.1 {B} 10.0.12.2 {FULL}"

@@ -6,8 +6,8 @@ from ..model.rows import Reply, is_address
 from ..net.stream import LONGEST
 
 # Of a row's fields behind its word, the last one that is an address.
-ADDRESSES = {"put": 4, "drop": 2, "node": 1, "ask": 3, "except": 3, "place": 3}
-FIRST = {"ask": 2, "except": 2, "place": 2}  # and the first one, where it isn't field 1
+ADDRESSES = {"put": 4, "drop": 2, "node": 1, "ask": 3, "except": 3, "place": 3, "held": 3, "offer": 3, "left": 2}
+FIRST = {"ask": 2, "except": 2, "place": 2, "held": 2, "offer": 2}  # and the first one, where it isn't field 1
 MOST_OWNERS = 16_384  # interfaces whose routers are known
 
 

@@ -5,9 +5,9 @@ import errno
 import re
 
 from .journals import MARK, batches, records
-from .rows import FIELDS, Refused
+from .rows import FIELDS, OF_BOOK, Refused
 
-KINDS = {*FIELDS, "except", "pair", "place", "release"}
+KINDS = {*FIELDS, "except", "pair", *OF_BOOK}
 FIRST_BYTES = {
     b"\x1f\x8b": "it is compressed by gzip: unpack it by gunzip",
     b"BZh": "it is compressed by bzip2: unpack it by bunzip2",
@@ -18,8 +18,9 @@ FIRST_BYTES = {
     b"\xfe\xff": "it is UTF-16: make it UTF-8 by iconv -f UTF-16 -t UTF-8",
 }
 SEPARATORS = {"\t": ("tabs", r"tr '\t' ,"), ";": ("semicolons", "tr ';' ,"), " ": ("spaces", "tr ' ' ,")}
-LINE = re.compile(r"(?:network |before |scenario \d+ |most |base \d+ v|version \d+$|(?:ask|except|pair|place) \d+ v\d+ "
-                  r"|batch \d+ refused: )")
+LINE = re.compile(r"(?:network |before |scenario \d+ |most |version \d+$|(?:ask|except|pair|place|offer|show|left) [\d.,]+ v\d+ "
+                  r"|(?:base|held|released) \d+ v|over [\d.,]+ \d$|lost \d+$"
+                  r"|(?:batch|place|held|offer|release|show|left) [\d.,]+ refused: )")
 HEADER = re.compile(r"\"?[A-Za-z_][A-Za-z0-9_ ]*\"?(?:,\"?[A-Za-z_][A-Za-z0-9_ ]*\"?)+")
 # Of an error's or a refusal's words, what to do. Only the first that is found is said.
 ADVICE = [(re.compile(found), told) for found, told in (
@@ -31,6 +32,10 @@ ADVICE = [(re.compile(found), told) for found, told in (
     ("Read-only file system", "write to another disk"),
     (r"timed out|Connection refused", "look whether the server runs, and at which place"),
     (r"refused: kind-of-pair", "write circuits or routers as the last field"),
+    (r"^(?:book-report|sweep: the book): row \d+ refused: kind",
+     "a row begins with put, drop, node, end, ask, place, held, offer, release, show or left"),
+    (r"^(?:book-report|sweep: the book): row \d+ refused: fields",
+     "a put row has 15 fields, a held row 11, an ask, place or offer row 10, a drop, node, end or left row 3, a release or show row 2"),
     (r"refused: kind", "a row begins with put, drop, node, end or ask"),
     (r"refused: fields", "a put row has 15 fields, an ask row 10, a drop, node or end row 3"),
     (r"refused: number \d+", "write digits without a sign, a point or leading zeros"),
@@ -40,12 +45,23 @@ ADVICE = [(re.compile(found), told) for found, told in (
     (r"refused: except", "write up to 64 prefixes such as 10.0.12.0/31i and 192.0.2.7/32r with one space between"),
     (r"refused: hops", "write up to seven prefixes such as 10.9.0.0/16s with one space between"),
     (r"refused: (?:self-link|same-ends)", "give two different routers"),
+    (r"refused: route", "write 16 hexadecimal digits for each link: its address and the router that it leads to, at last the tail-end"),
+    (r"held \d+ refused: same-id", "release the tunnel that has the id, or leave the row out"),
     (r"refused: same-id", "give each request an id of its own"),
     (r"refused: expected (\d+)", "give the batch the number that is expected"),
     (r"refused: counted (\d+)", "write the number of the batch's changes into its end row"),
+    (r"held \d+ refused: long", "give a route of at most 2048 links"),
+    (r"held \d+ refused: twice", "give a route that has each link once"),
+    (r"(?:place|offer) \d+ refused: (?:twice|long)", "give the tunnel other hops"),
+    (r"(?:place|held|offer) \d+ refused: full", "release some tunnels: a book has at most 65536"),
+    (r"refused: links", "release some tunnels: the routes of a book have at most 1048576 links"),
+    (r"(?:place|held|offer|release) \d+ refused: exhausted", "begin a new book: take a new base, and place the tunnels again"),
+    (r"refused: (?:keep \d+|stopped)", "make room, and run this again"),
     (r"refused: long", "cut the batch into batches of at most 4096 changes"),
     (r"refused: duplicate \d+", "leave one of the two changes of a link or a mark out"),
     (r"refused: absent \d+", "drop only links that are there"),
+    (r"(?:release|show) \d+ refused: absent", "give the id of a tunnel that is placed"),
+    (r"left \S+ refused: absent", "give the router and the interface at which a link of the base begins"),
     (r"(?:^|: )unended \d+", "write an end row behind the last change"),
     (r"torn after \d+", "cut the rows behind the last whole batch off"),
     (r"too many rows", "begin with a snapshot of the journal: routed snapshot --journal FILE"),

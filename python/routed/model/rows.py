@@ -9,6 +9,7 @@ from dataclasses import dataclass, field as attribute, replace
 MOST_CHANGES = 4096  # of a batch
 MOST_PARTS = 64  # of the field EXCEPT of an `except` row
 KINDS = "circuits", "routers"  # of a `pair` row, in the place of hops: what its two ways don't share
+OF_BOOK = "place", "held", "offer", "release", "show", "left"  # the kinds of rows that `routed book` alone has
 OCTET = "(?:[0-9]|[1-9][0-9]|1[0-9][0-9]|2[0-4][0-9]|25[0-5])"
 ADDRESS = re.compile(rf"{OCTET}(?:\.{OCTET}){{3}}")
 NUMBER = re.compile("0|[1-9][0-9]*")
@@ -16,7 +17,7 @@ MASK = re.compile("0x[0-9A-Fa-f]{1,8}")
 # A put row whose numbers have too few digits to be out of range, as nearly all have: one test in the place of fourteen.
 USUAL = re.compile(f"put(?:,{ADDRESS.pattern}){{4}},(?:0|[1-9][0-9]{{0,8}}),{MASK.pattern}(?:,(?:0|[1-9][0-9]{{0,18}})){{8}}")
 DIGITS = "[0-9]{1,20}"
-REPLY = re.compile(rf"(?:ask|except|place) ({DIGITS}) v({DIGITS}) (?:route cost=({DIGITS}) hops={DIGITS} again=(?:yes|no) "
+REPLY = re.compile(rf"(?:ask|except|place|offer) ({DIGITS}) v({DIGITS}) (?:route cost=({DIGITS}) hops={DIGITS} again=(?:yes|no) "
                    "ero=([0-9a-f]{8}(?:[0-9a-f]{16})+)|(none|unknown-from|unknown-to))")  # the header, and 8 bytes of each link
 
 Key = tuple[str, ...]  # what a change is on: a link's router and local address; for a mark the router alone

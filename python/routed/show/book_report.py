@@ -4,7 +4,7 @@
 
 BOOK has rows of `routed book`: those of the base and of the tunnels, as a file of `routed book --keep` has them. Rows may be in
 several files, which are read one after the other; - is standard input. The rows are run by `routed book`, and the tables
-follow from the rows and its lines. A tunnel is `lost` where the base has its route no more, and `not placed` where it has none.
+follow from the rows and its lines. A tunnel is `lost` where the base doesn't have its route, and `not placed` where it has none.
 Links come with the least left first. `over` is a link on which the tunnels count for more than it has at some priority.
 
 The status is that of `routed book`: 0, or 2 where it refused a row; then the first line that refuses is on standard error. It is 1
@@ -44,9 +44,9 @@ class Report:
                         for _, request in sorted(self.book.unplaced.items())]
 
     def tunnel(self, placement: Placement) -> dict[str, Any]:
-        request, links = placement.request, placement.links
+        request, links, cost = placement.request, placement.links, self.book.cost(placement)
         return {**self.asked(request.id, request.head, request.tail, request.setup, request.bandwidth),
-                "state": "lost" if self.book.is_lost(placement) else "placed", "cost": placement.reply.cost,
+                "state": "lost" if self.book.is_lost(placement) else "placed", **({} if cost is None else {"cost": cost}),
                 "route": [[link.router, link.local] for link in links], "routers": [self.name(link.neighbor) for link in links]}
 
     def asked(self, name: int, head: str, tail: str, hold: int, bandwidth: int) -> dict[str, Any]:

@@ -9,9 +9,9 @@ import os
 import tempfile
 from collections.abc import Container, Iterable
 
-from ..model.books import PRIORITIES, Placement, follow, left_of
+from ..model.books import PRIORITIES, follow, left_of
 from ..model.journals import in_batches
-from ..model.rows import MOST_CHANGES, Drop, Key, Refused, Reply, Request, rank
+from ..model.rows import MOST_CHANGES, Drop, Key, Link, Refused, Reply, Request, rank
 from .failures import Outcome, Part, circuits_of, routers_of
 from .ranking import TUNNELS
 from .solving import Stopped, checked, run
@@ -42,10 +42,11 @@ class Planned:
         self.placements = [placement for _, placement in sorted(self.book.placements.items())]
         self.requests = [placement.request for placement in self.placements]
         self.lost = {placement.request.id for placement in self.placements if self.book.is_lost(placement)}
+        self.costs = [self.book.cost(placement) or 0 for placement in self.placements]  # a tunnel without a cost is lost already
         self.users: dict[Key, set[int]] = {}  # by a link or its reverse, the indexes of the tunnels with a route over it
         for index, placement in enumerate(self.placements):
-            for link in placement.links if placement.request.id not in self.lost else ():
-                for key in (link.key, link.back):
+            for old in placement.links if placement.request.id not in self.lost else ():
+                for key in (old.key, self.links[old.key].back):  # the link may have another address at its far end than it had
                     self.users.setdefault(key, set()).add(index)
         self.counted = self.book.counted()
         self.least = min((request.bandwidth for request in (*self.requests, *self.unplaced) if request.bandwidth), default=1)
@@ -110,15 +111,16 @@ class Planned:
         found: tuple[list[int], list[int]] = ([], [])  # lost, and placed again
         most, held = 0, dict[Key, list[int]]()
         for index, answer in zip(lost, answers):
-            request, before = self.requests[index], self.placements[index]
-            now, was = self.placed(request, answer, out), before.reply.cost
+            request, was = self.requests[index], self.costs[index]
+            now = self.placed(request, answer, out)
             found[now is not None].append(index)
             if now is None:
                 said.append(f"lost tunnel {request.id} {answer.split()[-1]} was={was}")
                 continue
-            most = max(most, now.reply.cost - was)
-            said.append(f"placed tunnel {request.id} cost={now.reply.cost} was={was} more={now.reply.cost - was}")
-            for sign, links in ((-1, before.links), (1, now.links)):
+            cost, walk = now
+            most = max(most, cost - was)
+            said.append(f"placed tunnel {request.id} cost={cost} was={was} more={cost - was}")
+            for sign, links in ((-1, self.placements[index].links), (1, walk)):
                 for link in links:
                     here = held.setdefault(link.key, list(self.counted.get(link.key, NOTHING)))
                     here[request.setup:] = [count + sign * request.bandwidth for count in here[request.setup:]]
@@ -127,8 +129,8 @@ class Planned:
         said += [*full, f"lost={len(found[0])} placed={len(found[1])} most={most} full={len(full)}"]
         return ("\n".join(f"scenario {place} {line}" for line in said), *found, len(full), {key: it[WORST] for key, it in held.items()})
 
-    def placed(self, request: Request, answer: str, out: Container[Key]) -> Placement | None:
-        """The placement that an answer makes, None where it has no route."""
+    def placed(self, request: Request, answer: str, out: Container[Key]) -> tuple[int, tuple[Link, ...]] | None:
+        """The cost and the links of the route that an answer has, None where it has none."""
         reply = Reply.parse(f"place {request.id} {answer}")
         if not reply and not answer.startswith("refused: "):
             raise Stopped(f"{self.program} wrote no reply to tunnel {request.id}: {answer}")
@@ -137,7 +139,7 @@ class Planned:
         links = tuple(self.book.walk(request, reply, out))
         if not links or links[-1].neighbor != request.tail or sum(link.metric for link in links) != reply.cost:
             raise Stopped(f"{self.program} wrote a route that the base doesn't have, to tunnel {request.id}: {answer}")
-        return Placement(request, reply, links)
+        return reply.cost, links
 
     def close(self) -> None:
         """Nothing runs between two scenarios."""
