@@ -131,37 +131,68 @@ fn row_of(alloc: Global, text: &[u8]) -> Result<Option<BookRow>, Fail> {
     Ok(BookRow::read(alloc, &fields)?.ok())
 }
 
+/// Whether the row asks what a `place` row with this request would be answered.
+fn is_offer(row: &BookRow, asked: &Option<Request>) -> bool {
+    match row {
+        BookRow::Offer { request, hold } => Some(*request) == *asked && *hold == 0,
+        _ => false,
+    }
+}
+
+/// Whether the row places this request.
+fn is_place(row: &BookRow, asked: &Option<Request>) -> bool {
+    match row {
+        BookRow::Place { request, hold } => Some(*request) == *asked && *hold == 4,
+        _ => false,
+    }
+}
+
+/// Whether the row looks at the placement 1, or releases the placement 7.
+fn has_its_id(row: &BookRow) -> bool {
+    match row {
+        BookRow::Show { id } => *id == 1,
+        BookRow::Release { id } => *id == 7,
+        _ => false,
+    }
+}
+
+/// Whether the row looks at the link 10.0.1.2 of the router 1.1.1.1.
+fn is_left(row: &BookRow) -> bool {
+    match row {
+        BookRow::Left { from, local } => {
+            *from == Addr::new(0x0101_0101) && *local == Addr::new(0x0a00_0102)
+        }
+        _ => false,
+    }
+}
+
 #[test]
 fn rows_that_are_read(rt: HostRuntime) -> Result<(), Fail> {
     let alloc = rt.alloc();
     let asked = request(1, 7, [0, 0, 0], Hops::none());
-    let offer = row_of(alloc, b"offer,1,1.1.1.1,3.3.3.3,0,700,0x0,0x0,0x0,")?;
-    let offered = match offer {
-        Some(BookRow::Offer { request, hold }) => Some(request) == asked && hold == 0,
-        _ => false,
+    let offered = match row_of(alloc, b"offer,1,1.1.1.1,3.3.3.3,0,700,0x0,0x0,0x0,")? {
+        Some(row) => is_offer(&row, &asked),
+        None => false,
     };
     assert_case(&rt, "row", 1, offered);
-    let place = row_of(alloc, b"place,1,1.1.1.1,3.3.3.3,4,700,0x0,0x0,0x0,")?;
-    let placed = match place {
-        Some(BookRow::Place { request, hold }) => Some(request) == asked && hold == 4,
-        _ => false,
+    let placed = match row_of(alloc, b"place,1,1.1.1.1,3.3.3.3,4,700,0x0,0x0,0x0,")? {
+        Some(row) => is_place(&row, &asked),
+        None => false,
     };
     assert_case(&rt, "row", 2, placed);
-    let shown = match row_of(alloc, b"show,1")? {
-        Some(BookRow::Show { id }) => id == 1,
-        _ => false,
-    };
-    assert_case(&rt, "row", 3, shown);
-    let released = match row_of(alloc, b"release,7")? {
-        Some(BookRow::Release { id }) => id == 7,
-        _ => false,
-    };
-    assert_case(&rt, "row", 4, released);
+    for (i, text) in [b"show,1".as_slice(), b"release,7".as_slice()]
+        .iter()
+        .enumerate()
+    {
+        let is = match row_of(alloc, text)? {
+            Some(row) => has_its_id(&row),
+            None => false,
+        };
+        assert_case(&rt, "row", i + 3, is);
+    }
     let left = match row_of(alloc, b"left,1.1.1.1,10.0.1.2")? {
-        Some(BookRow::Left { from, local }) => {
-            from == Addr::new(0x0101_0101) && local == Addr::new(0x0a00_0102)
-        }
-        _ => false,
+        Some(row) => is_left(&row),
+        None => false,
     };
     assert_case(&rt, "row", 5, left);
     Ok(())
