@@ -6,7 +6,7 @@ import re
 import socket
 import struct
 
-from pcep.beside import Client, Run, wait
+from pcep.beside import Client, Run, opened, wait
 from pcep.delegated import changes
 from pcep.played import bandwidth, hop, ip, lspa, metric, request, told
 from reference import formats
@@ -67,9 +67,7 @@ def drawn(program, checks, room):
     draw = random.Random(89)
     networks, sent, answers = [formats.Network()], {}, {}
     with Run(program.path, room) as run:
-        client = Client(run.port, "127.0.11.1")
-        client.open()
-        wait(lambda: run.figures()["sessions"] == 1)
+        client = opened(run, "127.0.11.1")
         for number in range(40):
             before, batch = networks[-1], changes(draw, networks[-1])
             networks.append(before.after([formats.row(row.split(",")) for row in batch]))
@@ -85,7 +83,7 @@ def drawn(program, checks, room):
                 about = next(struct.unpack("!4xI", one.body[:8])[0] for one in objects if one.kind == 2)
                 answers.setdefault(about, []).append((kind, objects))
         checks.same("drawn: SIGTERM", run.end(), 0)
-        lines = [*zip(run.kept(1, "requests").splitlines(), run.kept(1, "replies").splitlines())]
+        lines = [*zip(run.kept(1, "requests").splitlines(), run.kept(1, "replies").splitlines())][1:]  # without that of `opened`
         checks.same("drawn: each request has one answer", ({*answers}, {len(found) for found in answers.values()}), ({*sent}, {1}))
         replied = iter([(about, told(*found[0])) for about, found in answers.items() if found[0][0] == wire.REPLY])
         versions, faults, outcomes = [], [], {}

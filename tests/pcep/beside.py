@@ -16,6 +16,7 @@ from routed.pcep.keys import set_key
 from routed.pcep.wire import pack, tlv
 
 OPENED = ["Open", "Keepalive"]
+UNAVAILABLE = "NO-PATH 1"  # the server isn't there yet
 SILENT = 2  # seconds without an answer
 TO_NORTH, TO_SOUTH = (f"PCUpd {' '.join(route)}" for route in (NORTH, SOUTH))
 
@@ -144,6 +145,14 @@ def wait(test, pause=0.05):
     end = time.monotonic() + PATIENCE
     while not test() and time.monotonic() < end:
         time.sleep(pause)
+
+
+def opened(run, source="127.0.1.1"):
+    """A PCC whose session is up, once the front has asked the server: one request of the PCC has been, and nothing is there yet."""
+    client = Client(run.port, source)
+    client.open()
+    wait(lambda: client.ask() != UNAVAILABLE)
+    return client
 
 
 def begun(run, source="127.0.1.1"):

@@ -5,7 +5,7 @@ import random
 import struct
 from typing import NamedTuple
 
-from pcep.beside import Client, Run, wait
+from pcep.beside import Client, Run, opened, wait
 from pcep.delegated import changes
 from pcep.excluded import NEAR, xro
 from pcep.excluding import judged, version_of
@@ -100,9 +100,7 @@ def drawn_ways(program, checks, room):
     """Drawn pairs while the network changes. Each is the reference's at the version of its line, and its ways share nothing there."""
     draw, network, sent, found = random.Random(9181), formats.Network(), [], {}
     with Run(program.path, room, listen=["--pairs"]) as run:
-        client = Client(run.port, "127.0.19.1")
-        client.open()
-        wait(lambda: run.figures()["sessions"] == 1)
+        client = opened(run, "127.0.19.1")
         for _ in range(ROUNDS):
             batch = [row for _ in range(4) for row in changes(draw, network)]
             batch = [*{tuple(row.split(",")[1:2 + (row[0] != "n")]): row for row in batch}.values()]
