@@ -4,7 +4,6 @@ import time
 
 ADDITIONS, SECONDS = 50_000, 0.002  # and the processor seconds that they take on a processor of 2.5 GHz that does nothing else
 SAMPLES = 9
-SHARED = 2  # times as long other work takes where the caches are shared, too
 
 
 def sample():
@@ -16,6 +15,6 @@ def sample():
 
 
 def allowed(seconds, samples=()):
-    """The processor seconds for work that takes so many on a processor that does nothing else. Never fewer than those. `samples` were
-    taken beside the work; without them, some are taken now."""
-    return seconds * SHARED * max(1, statistics.median(samples or [sample() for _ in range(SAMPLES)]))
+    """The processor seconds for work that takes so many on a processor that does nothing else, where it is these. `samples` were taken
+    beside the work; without them, some are taken now. Additions need no memory, and work that does loses as much once more."""
+    return seconds * max(1, statistics.median(samples or [sample() for _ in range(SAMPLES)])) ** 2

@@ -11,7 +11,6 @@ from feed.both import scenarios
 from feed.lab import lab
 from feed.played import A, A_B, B, B_A, C, COLLECT, INFINITE, NAN, PAIR, PAIR_ROWS, PATIENCE, ROUTERS, Feed
 from feed.played import Router, fed, lsa, message, raw, removal, router_lsa, row, te_lsa, tlv, update
-from pace import allowed
 
 
 def columns(checks):
@@ -239,7 +238,7 @@ def queued(checks):
     for file in reading:
         os.close(file)
     checks.same("asks that wait", feed.program.stream.waiting.count(row) * len(row), len(feed.program.stream.waiting))
-    checks.true("asks that wait: seconds of a processor", took < allowed(2), took)
+    checks.true("asks that wait: seconds of a processor", took < 2, took)
 
 
 def feed(program, checks):

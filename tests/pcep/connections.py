@@ -6,7 +6,6 @@ import socket
 import struct
 import time
 
-from pace import allowed
 from pcep.played import PATH, SOUTH, Front, hop, report, report_of, request, rows, told, told_one
 from pcep.played import Pcc as Played
 from tools.fronts import reset as cut_off
@@ -133,7 +132,7 @@ def collected(checks, room):
     checks.true("one message: its replies", count > 1300 and found[2:] == [PATH] * count, (count, len(found)))
     checks.true("one message: asks at once", 200 < most <= 256, most)
     checks.true("one message: their bytes", replies < 2 * wire.MOST, replies)
-    checks.true("one message: seconds of a processor", took < allowed(2), took)
+    checks.true("one message: seconds of a processor", took < 2, took)
 
 
 def paced(checks, room):

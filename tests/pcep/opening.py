@@ -6,7 +6,6 @@ import struct
 import tempfile
 import time
 
-from pace import allowed
 from pcep.played import CIRCUITS, NORTH, PATH, SOUTH, Front, Pcc, ip, report_of, request, rows, told, told_one
 
 from routed.pcep import wire
@@ -171,8 +170,7 @@ def overloaded(checks, room):
     many = [pack(2, struct.pack("!II", 0, 7)), pack(12, bytes([0, 0, 1, 1]))] * 3200
     began = time.process_time()
     pcc.say(wire.message(wire.NOTIFICATION, *many))
-    took = time.process_time() - began
-    checks.true("one PCNtf of 3,200 notifications: seconds of a processor", took < allowed(1), took)
+    checks.true("one PCNtf of 3,200 notifications: seconds of a processor", time.process_time() - began < 1, time.process_time() - began)
 
 
 def byte_for_byte(checks, room):

@@ -9,7 +9,6 @@ import subprocess
 import tempfile
 import time
 
-from pace import allowed
 from pcep.excluded import NEAR, wire_messages, xro
 from pcep.played import Front, Pcc, bandwidth, hop, ip, lspa, metric, request, rows, told, told_one
 from pcep.sources import sids_of
@@ -289,7 +288,7 @@ def many_pairs(checks, room):
     found = words_by_id(wire_messages(pcc))
     checks.same("many pairs", found, {number: NORTH if number % 2 else SOUTH for number in numbers})
     checks.true("many pairs: asks at once", 200 < most <= 256, most)
-    checks.true("many pairs: seconds of a processor", (took := time.process_time() - began) < allowed(4), took)
+    checks.true("many pairs: seconds of a processor", time.process_time() - began < 4, time.process_time() - began)
 
 
 def request_of(here, there):

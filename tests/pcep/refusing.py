@@ -4,7 +4,6 @@ import struct
 import tempfile
 import time
 
-from pace import allowed
 from pcep.played import GOING_UP, NORTH, SOUTH, Front, Pcc, report, rows
 
 from routed.pcep import wire
@@ -158,8 +157,7 @@ def long(checks, room):
         for _ in range(10):
             pcc.session.again()
         spent = time.process_time() - spent
-        soon = spent < allowed(2) and pcc.faults() == ["unknown"]
-        checks.true(f"an ERO of {count} hops: seconds of ten looks", soon, (spent, pcc.faults()))
+        checks.true(f"an ERO of {count} hops: seconds of ten looks", spent < 2 and pcc.faults() == ["unknown"], (spent, pcc.faults()))
         checks.same(f"an ERO of {count} hops: updates", pcc.updates(), [])
 
 

@@ -4,7 +4,6 @@ import signal
 import tempfile
 import time
 
-from pace import allowed
 from pcep.beside import OPENED, TO_NORTH, Client, Run, addresses, begun, wait
 from pcep.played import NORTH, PATH, request, rows
 from tools.fronts import AT_ONCE, RESETS, reset
@@ -156,8 +155,7 @@ def reset_all(program, checks, room):
         checks.same("resets: sessions, and lines of the log", (run.figures()["sessions"], lines), (1, []))
         checks.true("resets: replies waited at the front", run.waiting > AT_ONCE * 32 * LARGE, run.waiting)
         checks.same("resets: SIGTERM", run.end(), 0)
-    bound = allowed(SOON)
-    soon = sum(taken < bound for taken in times)
+    soon = sum(taken < SOON for taken in times)
     checks.true("resets: the PCC beside them is answered soon", count >= RESETS and soon >= OF_ALL * len(times), sorted(times)[-20:])
     print(f"resets: {count}, 99 of 100 answers beside them within {1e3 * sorted(times)[int(OF_ALL * len(times))]:.0f} ms, "
           f"{time.monotonic() - start:.0f} s")

@@ -4,7 +4,6 @@ import random
 import tempfile
 import time
 
-from pace import allowed
 from pcep.excluded import BY_DIRECT, BY_NORTH, BY_SOUTH, NORTH_ERO, SOFT, SOUTH_ERO, SRLG, TO_DIRECT, TO_NORTH, TO_SOUTH, TRIANGLE
 from pcep.excluded import prefix, srlg, words_of, xro
 from pcep.played import Front, Pcc, ip, reply, rows, told
@@ -328,7 +327,7 @@ def large(checks, room):
             began = time.process_time()
             checks.same(f"an SRLG of 10,000 circuits {name}, {len(circuits)} of them in the network", file.ask(part), [wanted])
             took = time.process_time() - began
-            checks.true(f"an SRLG of 10,000 circuits {name}: the time", took < allowed(SECONDS), took)
+            checks.true(f"an SRLG of 10,000 circuits {name}: the time", took < SECONDS, took)
 
 
 def churned(checks, room):

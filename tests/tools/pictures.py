@@ -8,7 +8,6 @@ import tempfile
 import xml.etree.ElementTree as xml
 
 from checks import TOP
-from pace import allowed
 from tools.drawing import SVG, begin_of, big_network, classes, draw, draw_failures, hovers, least_distance, link, names, notes, places_in
 from tools.drawing import shapes
 from tools.labels import apart, placer
@@ -287,7 +286,7 @@ def layouts(_, checks):
     after = resource.getrusage(resource.RUSAGE_CHILDREN)
     took = after.ru_utime + after.ru_stime - before.ru_utime - before.ru_stime
     checks.same("the largest network", (status, said, len(shapes(picture, "circuit"))), (0, "", 8192))
-    checks.true("the largest network takes at most 10 s of processor time", took <= allowed(10), f"{took:.1f} s")
+    checks.true("the largest network takes at most 10 s of processor time", took <= 10, f"{took:.1f} s")
     at = list(places_in(picture).values())
     checks.true("no router of the largest network covers another", len(at) == 1024 and least_distance(at) > 2 * 9, least_distance(at))
     from routed.pictures.layout import lay_out
