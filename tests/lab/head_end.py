@@ -16,6 +16,7 @@ from reference import formats, runs
 
 LAB = os.path.join(os.path.dirname(os.path.abspath(__file__)), "lab")
 PATIENCE = 900  # seconds for a whole run of the lab
+DEAD = 40  # seconds of silence until a neighbor is gone: no event here is a silence, and a busy machine makes none
 SOON = 500  # milliseconds from before a circuit's end to the last PCUpd
 OPEN, REQUEST, REPLY, ERROR, REPORT, UPDATE, INITIATE = 1, 3, 4, 6, 10, 11, 12
 HEAD, PCE = "10.0.0.1", "10.0.0.5"
@@ -123,7 +124,8 @@ def packets(_, checks):
 
 def head_end(program, checks):
     with tempfile.TemporaryDirectory() as room:
-        ran = subprocess.run([LAB, "--pcep", "--program", program, "--folder", room], capture_output=True, text=True, timeout=PATIENCE)
+        words = [LAB, "--pcep", "--dead", str(DEAD), "--program", program, "--folder", room]
+        ran = subprocess.run(words, capture_output=True, text=True, timeout=PATIENCE)
         print(f"tests/chain: {ran.stdout}", end="")
         checks.same("a run with a PCE", (ran.returncode, ran.stderr), (0, ""))
         texts = {name: open(os.path.join(room, f"lab.{name}"), encoding="ascii").read() for name in ("journal", "sids", "messages")}

@@ -14,10 +14,6 @@ COUNT = 6
 # Two routers, and the cost of both directions. From 1 to 6 the least route is 1 2 4 6 of cost 30; without the circuit
 # 2-4 it is 1 3 4 6 of cost 35, and without router 4 it is 1 3 5 6 of cost 45.
 CIRCUITS = [(1, 2, 10), (2, 4, 10), (4, 6, 10), (1, 3, 15), (3, 4, 10), (3, 5, 15), (5, 6, 15)]
-# Hellos each 0.2 s, and a neighbor is gone 1 s behind the last.
-FAST = """ip ospf dead-interval minimal hello-multiplier 5
-ip ospf retransmit-interval 1
-"""
 FAST_LSAS = """timers throttle lsa all 0
 timers lsa min-arrival 0
 """
@@ -64,14 +60,22 @@ def zebra_conf(router):
     return "\n".join([*lines, "ip forwarding", ""])
 
 
-def ospfd_conf(router, is_fast, has_bfd=False, has_pce=False):
+def timers(dead):
+    """A neighbor is gone so many seconds behind its last hello: 1, with five hellos a second, or more, with one. None: OSPF's defaults."""
+    if dead is None:
+        return []
+    one = ["ip ospf dead-interval minimal hello-multiplier 5"]
+    return [*(one if dead == 1 else ["ip ospf hello-interval 1", f"ip ospf dead-interval {dead}"]), "ip ospf retransmit-interval 1"]
+
+
+def ospfd_conf(router, dead, has_bfd=False, has_pce=False):
     lines = ["interface lo", "ip ospf area 0", "exit"]
     for neighbor, cost in neighbors(router):
         lines += [f"interface {interface(router, neighbor)}", "ip ospf area 0", "ip ospf network point-to-point", f"ip ospf cost {cost}",
-                  *FAST.splitlines() * is_fast, *BFD * has_bfd, "exit"]
+                  *timers(dead), *BFD * has_bfd, "exit"]
     return "\n".join([*lines, "router ospf", f"ospf router-id {router_id(router)}", "capability opaque", "mpls-te on",
                       f"mpls-te router-address {router_id(router)}", *["segment-routing on"] * has_pce,
-                      *FAST_LSAS.splitlines() * is_fast, "exit", ""])
+                      *FAST_LSAS.splitlines() * (dead is not None), "exit", ""])
 
 
 def pathd_conf():
@@ -111,7 +115,7 @@ def await_file(path, process, what, said=os.devnull):
 class Routers:
     """The running routers. Nothing ends them: they end with the process namespace that they are in."""
 
-    def __init__(self, is_fast, has_bfd, has_pce=False):
+    def __init__(self, dead, has_bfd, has_pce=False):
         self.ospfd = {}
         for router in range(1, COUNT + 1):
             command("ip", "netns", "add", f"lab-{router}")
@@ -123,7 +127,7 @@ class Routers:
             self.link(b, a, "up")
         for router in range(1, COUNT + 1):
             daemons = [("zebra", zebra_conf(router), []), ("bfdd", BFDD_CONF, ["--bfdctl", f"{ROOM}/{router}/bfdd.sock"]),
-                       ("ospfd", ospfd_conf(router, is_fast, has_bfd, has_pce), ["-a"]), ("pathd", pathd_conf(), ["-M", "pathd_pcep"])]
+                       ("ospfd", ospfd_conf(router, dead, has_bfd, has_pce), ["-a"]), ("pathd", pathd_conf(), ["-M", "pathd_pcep"])]
             left_out = {"bfdd": not has_bfd, "pathd": not has_pce or router != HEAD}
             self.start(router, [daemon for daemon in daemons if not left_out.get(daemon[0])])
 
