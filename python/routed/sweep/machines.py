@@ -14,7 +14,7 @@ import subprocess
 import sys
 import tempfile
 import threading
-from collections.abc import Callable, Iterable, Iterator
+from collections.abc import Callable, Iterable, Iterator, Mapping
 from typing import IO, Any
 
 from ..model.journals import MOST_ROWS
@@ -74,20 +74,33 @@ def over_dask(address: str, given: Network, scenarios: Scenarios, count: int) ->
             workers = client.scheduler_info()["workers"]
             if not workers:
                 raise Stopped(f"{address}: there is no worker")
-            far, left = client.scatter(ByValue(functools.partial(tell, given)), broadcast=True, hash=False), scenarios()
+            # Each worker has its own copy and its own tasks. What a worker fetches from another may get lost there, and then its tasks
+            # wait for ever.
+            far, left = {worker: client.scatter(ByValue(functools.partial(tell, given)), workers=[worker], hash=False)
+                         for worker in workers}, scenarios()
             waiting: collections.deque[tuple[int, Any]] = collections.deque()
             threads = sum(worker["nthreads"] for worker in workers.values())
             size = max(1, min(MOST_IN_TASK, count // (SHARES * threads)))
+            handed: dict[str, list[Any]] = {worker: [] for worker in workers}
             while some := [(place, [tuple(part) for part in parts]) for place, parts in itertools.islice(left, size)]:
                 if len(waiting) == AHEAD * threads:
                     yield from results(client, workers, distributed.TimeoutError, *waiting.popleft())
-                waiting.append((some[0][0], client.submit(operator.call, far, some, pure=False)))
+                worker = least_busy(handed, workers)
+                handed[worker].append(client.submit(operator.call, far[worker], some, pure=False, workers=[worker]))
+                waiting.append((some[0][0], handed[worker][-1]))
             while waiting:
                 yield from results(client, workers, distributed.TimeoutError, *waiting.popleft())
     except (Refused, Stopped):
         raise
     except Exception as fault:
         raise Stopped(f"{address}: {type(fault).__name__}: {fault}") from None
+
+
+def least_busy(handed: dict[str, list[Any]], workers: Mapping[str, Any]) -> str:
+    """The worker that has the fewest tasks to do for each of its threads. Tasks that are done are taken off the lists."""
+    for tasks in handed.values():
+        tasks[:] = [task for task in tasks if not task.done()]
+    return min(handed, key=lambda worker: len(handed[worker]) / workers[worker]["nthreads"])
 
 
 def results(client: Any, workers: Iterable[str], late: type[Exception], place: int, future: Any) -> Outcomes:
@@ -98,7 +111,7 @@ def results(client: Any, workers: Iterable[str], late: type[Exception], place: i
             found = future.result(timeout=1)
         except late:
             pass
-        except Exception as raised:  # a worker that goes may take with it what was sent to all, and then the task is cancelled
+        except Exception as raised:  # a worker that goes takes with it what was sent to it, and then the task is cancelled
             fault = raised
             if client.status != "running":
                 raise Stopped(f"scenario {place}: the scheduler is gone") from None
