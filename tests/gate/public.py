@@ -103,7 +103,8 @@ class Tree:
                         it.contract.name = f"{owner.contract.name}{f' as {of_trait}' if of_trait else ''}::{it.contract.name}"
                         owner.more.append(it)
                 if of_trait:
-                    said.name = f"{owner.contract.name} as {of_trait}"
+                    given = re.search("<.*>", header.partition(" for ")[2])  # one trait may be for a type with several arguments
+                    said.name = f"{owner.contract.name}{given[0] if given else ''} as {of_trait}"
                     owner.more.append(Item(said, True))
             elif isinstance(trait, Item):
                 said.name = f"{trait.contract.name} for {header.partition(' for ')[2] or name}"
