@@ -1,6 +1,6 @@
 #!/usr/bin/env python3
 """Tests of `routed book`: worked streams (tests/program/scripts/book), refusals, limits, and drawn streams compared with
-tests/reference/books.py.
+tests/reference/books.py; and those of `routed book --compact` (tests/program/compact_books.py, tests/program/compact_runs.py).
 
     tests/program/book.py
     tests/program/book.py --full
@@ -23,7 +23,7 @@ import time
 sys.dont_write_bytecode = True
 sys.path.insert(1, os.path.dirname(os.path.dirname(os.path.abspath(__file__))))
 from checks import Checks
-from program import held_books, kept_books, known_books
+from program import compact_books, compact_runs, held_books, kept_books, known_books
 from program.drawn_books import IDS, ROWS, STREAMS, WANTED, Drawn, drawn_stream, kinds_of, offers_of, stream
 from program.known_books import BASE, CIRCUIT, DIRECT, ENDS, FREE, HERE, MASKS, SCRIPTS, Reference, address, held, held_row, offer, place
 from program.known_books import status_of, worked
@@ -395,7 +395,7 @@ def told_apart(_, checks, seeds=0):
 
 def book(program, checks):
     checks.parts((streams, drawn, released, full_size, pieces, dialogue, devices, command_line, refused_calls, keeps, replayed,
-                  told_apart), program, checks)
+                  told_apart, *compact_books.PARTS, *compact_runs.PARTS), program, checks)
 
 
 def main():
@@ -404,7 +404,7 @@ def main():
     if words.parse_args().full:
         full(BUILT, checks)
     else:
-        checks.parts((streams, drawn, released, full_size, replayed), None, checks)
+        checks.parts((streams, drawn, released, full_size, replayed, *compact_books.PARTS), None, checks)
         told_apart(None, checks, 20)
     checks.end()
 

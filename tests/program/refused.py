@@ -12,9 +12,9 @@ from collections import Counter
 
 from checks import TOP
 from program.refusal import COMPILER, Refuser, each
-from program.snapshots import snapshot_of
 from reference import excepts, runs
 from reference.formats import Network
+from reference.runs import snapshot_of
 from reference.versions import Versions
 
 ABILENE, UPDATES, REQUESTS = (os.path.join(TOP, "examples", name) for name in ("abilene.rows", "nsfnet.journal", "nsfnet.requests"))

@@ -7,7 +7,7 @@ import time
 
 from reference import changes
 from reference.formats import MOST_CHANGES, MOST_LINKS, MOST_MARKS, MOST_ROUTERS, Refused
-from reference.runs import MOST_ROWS, batch_text, publish, whole_batches
+from reference.runs import MOST_ROWS, batch_text, publish, snapshot_of, whole_batches
 
 HERE = os.path.dirname(os.path.abspath(__file__))
 TORN = "--accept-torn"
@@ -42,14 +42,6 @@ def held():
 
 
 # ---- what is written
-
-
-def snapshot_of(network):
-    """A put of each link, in order of its key, and then a change for each mark, rising, in full batches but for the last."""
-    rows = [("put", network.links[key]) for key in sorted(network.links)]
-    rows += [("node", {"router": router, "transit": False}) for router in sorted(network.marks)]
-    cuts = [rows[first:first + MOST_CHANGES] for first in range(0, len(rows), MOST_CHANGES)]
-    return "".join(batch_text(place, cut) for place, cut in enumerate(cuts, 1))
 
 
 def wanted_of(journal, accept_torn):

@@ -259,15 +259,16 @@ class Book:
         return f"left {key_text(asked)} v{self.version} {' '.join(texts)}"
 
 
-def steps(rows, room=math.inf):
-    """The status of a run, and for each row its lines and what is written to `--keep` for it; the last line comes after them. `room` is how
-    many bytes the file of `--keep` takes: the row that has more than it takes is refused, and after it each row that could change the book.
-    """
-    book, changes, found, is_refused, is_stopped = Book(), [], [], False, False
+# A row that was read: the book after it, the open changes, its lines, what is written to `--keep` for it, and whether it is refused.
+Step = collections.namedtuple("Step", "book changes lines kept is_refused")
+
+
+def walked(rows, room=math.inf):
+    """A step for each row, however many there are. `room` is how many bytes the file of `--keep` takes: the row that has more than it takes
+    is refused, and after it each row that could change the book."""
+    book, changes, is_stopped = Book(), [], False
     for at, fields in enumerate(formats.records(rows), 1):
-        if at > MOST_ROWS:
-            return 2, [*found, (["too many rows"], "")]
-        subject, before, lines, text, kept = f"row {at}", copy.copy(book), [], ",".join(fields) + "\n", ""
+        subject, before, lines, text, kept, is_refused = f"row {at}", copy.copy(book), [], ",".join(fields) + "\n", "", False
         try:
             kind, content = row(fields)
             if kind == "end":
@@ -293,7 +294,17 @@ def steps(rows, room=math.inf):
                 kept, room = text, room - len(text)
         except Refused as words:
             lines, is_refused = [f"{subject} refused: {words}"], True
-        found.append((lines, kept))
+        yield Step(book, changes, lines, kept, is_refused)
+
+
+def steps(rows, room=math.inf):
+    """The status of a run, and for each row its lines and what is written to `--keep` for it; the last line comes after them."""
+    found, changes, is_refused = [], [], False
+    for at, step in enumerate(walked(rows, room), 1):
+        if at > MOST_ROWS:
+            return 2, [*found, (["too many rows"], "")]
+        found.append((step.lines, step.kept))
+        changes, is_refused = step.changes, is_refused or step.is_refused
     last = [([f"unended {len(changes)}"], "")] if changes else []
     return 2 if is_refused or changes else 0, found + last
 

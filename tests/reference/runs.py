@@ -5,7 +5,7 @@ Each gives its status and its lines. Small and slow on purpose; nothing in it is
 import re
 
 from reference import excepts, pairs
-from reference.formats import DECIMAL, Network, Refused, address_text, records, row
+from reference.formats import DECIMAL, MOST_CHANGES, Network, Refused, address_text, records, row
 
 MOST_ROWS = 1_000_000  # of a stream
 MOST_VERSIONS = 1_000_000
@@ -163,6 +163,14 @@ def batch_text(place, changes):
                        *change["free"]]
         rows.append(",".join(map(str, fields)))
     return "".join(f"{line}\n" for line in [*rows, f"end,{place},{len(changes)}"])
+
+
+def snapshot_of(network):
+    """A put of each link, in order of its key, and then a change for each mark, rising, in full batches but for the last."""
+    rows = [("put", network.links[key]) for key in sorted(network.links)]
+    rows += [("node", {"router": router, "transit": False}) for router in sorted(network.marks)]
+    cuts = [rows[first:first + MOST_CHANGES] for first in range(0, len(rows), MOST_CHANGES)]
+    return "".join(batch_text(place, cut) for place, cut in enumerate(cuts, 1))
 
 
 # ---- the judgement of reply lines

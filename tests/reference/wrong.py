@@ -1,5 +1,6 @@
-"""Wrong programs and books: the reference with one rule turned. What compares programs with it has to tell each apart."""
-from reference import wrong_counts, wrong_held, wrong_limits, wrong_lines, wrong_networks, wrong_rows, wrong_runs, wrong_shown
+"""Wrong programs, books and compactions: the reference with one rule turned. What compares programs with it has to tell each apart."""
+from reference import (wrong_compacts, wrong_counts, wrong_held, wrong_limits, wrong_lines, wrong_networks, wrong_rows, wrong_runs,
+                       wrong_shown)
 from reference.turning import turned
 
 RULES, LIMITS = (wrong_rows, wrong_networks, wrong_runs), (wrong_limits,)
@@ -13,3 +14,8 @@ def programs(rules):
 def books():
     """Pairs of what a wrong book does and its module."""
     return turned((wrong_counts, wrong_lines, wrong_held, wrong_shown), "books")
+
+
+def compactions():
+    """Pairs of what a wrong compaction does and its module."""
+    return turned((wrong_compacts,), "compacts")

@@ -141,16 +141,16 @@ def says_nothing_of_links_after_a_fault(it):
 
 def keeps_offers(it):
     keeping = "kept, room = text, room - len(text)"
-    it.steps = rebound(it.steps, keeping, f'{keeping}\n            elif kind == "offer":\n                {keeping}')
+    it.walked = rebound(it.walked, keeping, f'{keeping}\n            elif kind == "offer":\n                {keeping}')
 
 
 def keeps_no_held_rows(it):
-    it.steps = rebound(it.steps, "if book.version > before.version:", 'if book.version > before.version and kind != "held":')
+    it.walked = rebound(it.walked, "if book.version > before.version:", 'if book.version > before.version and kind != "held":')
 
 
 def says_over_of_a_held_row_that_is_not_kept(it):
-    it.steps = rebound(it.steps, 'lines, is_refused = [f"{subject} refused: {words}"], True',
-                       'lines, is_refused = [*lines[:-1], f"{subject} refused: {words}"], True')
+    it.walked = rebound(it.walked, 'lines, is_refused = [f"{subject} refused: {words}"], True',
+                        'lines, is_refused = [*lines[:-1], f"{subject} refused: {words}"], True')
 
 
 # ---- the status

@@ -11,9 +11,8 @@ import time
 
 from checks import TOOLS, TOP
 from program.serving import BATCHES, PATIENCE, ROUTERS, batches_of
-from program.snapshots import snapshot_of
 from reference import changes
-from reference.runs import publish, whole_batches
+from reference.runs import publish, snapshot_of, whole_batches
 from reference.versions import Versions
 from tools.fronts import MARK, Connection, Front
 from tools.reading import eventually, figures_of

@@ -7,8 +7,7 @@ import signal
 import threading
 
 from program.serving import BATCHES, PATIENCE, ROUTERS, batches_of, judged, wait_for
-from program.snapshots import snapshot_of
-from reference.runs import publish, whole_batches
+from reference.runs import publish, snapshot_of, whole_batches
 from tools.fronts import Connection, Front, admitted, busy
 
 

@@ -38,11 +38,11 @@ hops_spaced (hop ∷ next ∷ hops) = ap (λ text. hop_text hop ++ 32 ∷ text) 
 held_plain : (p : Placement) → StartsPlain (held_fields p)
 held_plain p = record { a = 104; b = 101; c = 108; word = 100 ∷ []; second = _; others = _; is = refl; no_mark = refl; plain = refl }
 
-held_starts : (ps : List Placement) → AllByRecursion StartsPlain (map held_fields ps)
+pub held_starts : (ps : List Placement) → AllByRecursion StartsPlain (map held_fields ps)
 held_starts [] = tt
 held_starts (p ∷ ps) = (held_plain p, held_starts ps)
 
-texts_of_rows : (ps : List Placement) → flat_map held_text ps ≡ flat_map (row_text default_writer) (map held_fields ps)
+pub texts_of_rows : (ps : List Placement) → flat_map held_text ps ≡ flat_map (row_text default_writer) (map held_fields ps)
 texts_of_rows [] = refl
 texts_of_rows (p ∷ ps) = ap (λ text. held_text p ++ text) (texts_of_rows ps)
 

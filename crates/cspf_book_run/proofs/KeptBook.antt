@@ -229,7 +229,7 @@ read_row fields r is = elim (cases_Bool (is_kind fields (codes "held"))) [
 
 -- ---- rows that are answered one after the other
 
-append_answered : (xs ys : List (List (List ℕ))) (p : ℕ) (s m t : BookRunState) (l k : List ℕ) → AreAnswered book_answers p s xs l m
+pub append_answered : (xs ys : List (List (List ℕ))) (p : ℕ) (s m t : BookRunState) (l k : List ℕ) → AreAnswered book_answers p s xs l m
     → ((q : ℕ) → AreAnswered book_answers q m ys k t) → AreAnswered book_answers p s (xs ++ ys) (l ++ k) t
 unfolding AreAnswered
 append_answered [] ys p s m t l k a rest =
@@ -237,11 +237,11 @@ append_answered [] ys p s m t l k a rest =
 append_answered (x ∷ xs) ys p s m t l k a rest =
     (a.0, a.1, a.2 ++ k, a.3, ap (λ (z : List ℕ). z ++ k) a.4 ∙ append_assoc a.0 a.2 k, append_answered xs ys (suc p) a.1 m t a.2 k a.5 rest)
 
-one_answered : (p : ℕ) (s t : BookRunState) (fields : List (List ℕ)) (line : List ℕ) → book_answers p s fields line t → AreAnswered book_answers p s (fields ∷ []) line t
+pub one_answered : (p : ℕ) (s t : BookRunState) (fields : List (List ℕ)) (line : List ℕ) → book_answers p s fields line t → AreAnswered book_answers p s (fields ∷ []) line t
 unfolding AreAnswered
 one_answered p s t fields line a = (line, t, [], a, sym (append-nil line), (refl, refl))
 
-none_answered : (p : ℕ) (s t : BookRunState) → t ≡ s → AreAnswered book_answers p s [] [] t
+pub none_answered : (p : ℕ) (s t : BookRunState) → t ≡ s → AreAnswered book_answers p s [] [] t
 unfolding AreAnswered
 none_answered p s t same = (refl, same)
 
@@ -256,7 +256,7 @@ module _ (laws : AreRowsReadBack) where
   change_taken p s (change.Put link) range = rw (change_row_of laws (change.Put link) range) (refl, refl)
   change_taken p s other range = rw (change_row_of laws other range) (refl, refl)
 
-  changes_taken : (cs : List Change) (p : ℕ) (s : BookRunState) → AllByRecursion IsChangeInRange cs → AreAnswered book_answers p s (map change_fields cs) [] (opened s (s.changes ++ cs))
+  pub changes_taken : (cs : List Change) (p : ℕ) (s : BookRunState) → AllByRecursion IsChangeInRange cs → AreAnswered book_answers p s (map change_fields cs) [] (opened s (s.changes ++ cs))
   unfolding AreAnswered
   changes_taken [] p s range = (refl, ap (opened s) (append-nil s.changes))
   changes_taken (c ∷ cs) p s range = (
@@ -269,6 +269,12 @@ module _ (laws : AreRowsReadBack) where
         (changes_taken cs (suc p) (after_open_change s c) range.1),
   )
 
+  -- The record of an end row is answered as the batch is accepted.
+  pub end_answered : (p : ℕ) (s : BookRunState) (number : ℕ) → number < 2 ^ 32 → length s.changes < 2 ^ 32 → IsBaseAccepted s number (length s.changes) → (line : List ℕ) → AreBaseLines s number line
+      → book_answers p s (end_fields number (length s.changes)) line (after_base_batch s)
+  unfolding book_row_of field_at
+  end_answered p s number small few accepted line lines = rw (laws.ends number (length s.changes) small few) (inl (accepted, lines, refl))
+
   -- Take the end row of an accepted batch. A run over the texts of accepted rows answers it with
   -- the same lines as the run that wrote these texts.
   end_taken : (p : ℕ) (s : BookRunState) (number count : ℕ) (line : List ℕ) → number < 2 ^ 32 → length s.changes < 2 ^ 32 → IsBaseAccepted s number count → AreBaseLines s number line
@@ -279,7 +285,7 @@ module _ (laws : AreRowsReadBack) where
       rw (laws.ends number (length s.changes) small few)
       (inl (record { room = accepted.room; next = accepted.next; counted = refl; fits = accepted.fits }, lines, refl))
 
-  records_plain : (cs : List Change) (number count : ℕ) → AllByRecursion IsChangeInRange cs → number < 2 ^ 32 → count < 2 ^ 32
+  pub records_plain : (cs : List Change) (number count : ℕ) → AllByRecursion IsChangeInRange cs → number < 2 ^ 32 → count < 2 ^ 32
       → AllByRecursion IsPlainRecord (map change_fields cs ++ (end_fields number count ∷ []))
   records_plain [] number count range small few = (end_plain number count small few, tt)
   records_plain (c ∷ cs) number count range small few = (change_plain laws c range.0, records_plain cs number count range.1 small few)
@@ -471,7 +477,7 @@ module _ (read : AreRowsRead) (laws : AreRowsReadBack) where
   row_remakes p s t fields (Ok (book_row.Left from local)) line range is a =
       looked_remakes s t (row_text default_writer fields) range (left_looks s t (from, local) (figures_at s.book.base s.book.placements (from, local)) line a)
 
-plain_append : (xs ys : List (List (List ℕ))) → AllByRecursion StartsPlain xs → AllByRecursion StartsPlain ys → AllByRecursion StartsPlain (xs ++ ys)
+pub plain_append : (xs ys : List (List (List ℕ))) → AllByRecursion StartsPlain xs → AllByRecursion StartsPlain ys → AllByRecursion StartsPlain (xs ++ ys)
 plain_append [] ys a b = b
 plain_append (x ∷ xs) ys a b = (a.0, plain_append xs ys a.1 b)
 

@@ -16,6 +16,9 @@ pub mod KeptTexts
 pub mod HeldRows
 pub mod FigureTexts
 pub mod KeptBook
+pub mod Compacts
+pub mod SettledParts
+pub mod CompactRuns
 pub mod OverTexts
 pub mod OverExact
 pub mod OverOnly

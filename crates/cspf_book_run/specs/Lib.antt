@@ -17,3 +17,6 @@ pub mod WrongRuns
 pub mod KeptLaws
 pub mod BookStates
 pub mod KeptStates
+pub mod Compacts
+pub mod CompactStates
+pub mod Settled

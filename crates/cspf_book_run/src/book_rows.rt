@@ -1,7 +1,7 @@
 //! The state of a run of a book: the rows of its base, with the book as their sink, and how many
 //! rows were read. Each row is answered from this state. Rows about placements go to the book.
 
-ghost use Rattle.std.specs.Prelude.{◌≡◌, ◌+◌, ◌<◌, ◌≤◌, [], false, IfOk, OnErr};
+ghost use Rattle.std.specs.Prelude.{◌≡◌, ◌+◌, ◌<◌, ◌≤◌, nat_lt, [], false, IfOk, OnErr};
 ghost use Rattle.csv.specs.Records.{fields_of};
 
 use crate::book_row::BookRow;
@@ -22,6 +22,7 @@ use std::alloc::{AllocError, Global};
 use std::io::Write;
 
 /// The state of a run between two rows. Only the memory of the book grows with the number of rows.
+#[derive(Drop)]
 pub struct BookRows<K> {
     /// The book with `keep`, the writer of accepted rows, the open changes, and two counts.
     /// `answers` counts the answers to `ask`, `place` and `offer` rows together. `refused` counts the
@@ -100,6 +101,34 @@ impl<K> BookRows<K> {
             refused: self.rows.refused as u32 + u32::from(unended),
             too_many,
         }
+    }
+
+    /// The book, in its state after the last row.
+    pub(crate) fn book(&self) -> &Book
+        ensures { result.now ≡ self.now.rows.sink.book }
+    {
+        self.rows.sink.book()
+    }
+
+    /// Whether a write to `keep` has failed.
+    pub(crate) fn has_stopped(&self) -> bool
+        ensures { result ≡ self.now.rows.sink.keeping.stopped }
+    {
+        self.rows.sink.has_stopped()
+    }
+
+    /// Whether a row was refused.
+    pub(crate) fn has_refused(&self) -> bool
+        ensures { result ≡ nat_lt 0 self.now.rows.refused }
+    {
+        self.rows.refused > 0
+    }
+
+    /// Whether changes are open.
+    pub(crate) fn has_open(&self) -> bool
+        ensures { result ≡ nat_lt 0 self.now.rows.changes.count }
+    {
+        self.rows.changes.count > 0
     }
 
     /// `keep`, the writer of accepted rows, in its state after the last call.

@@ -20,6 +20,7 @@ use std::marker::Model;
 
 /// The book of a run, and the writer of accepted rows. Its memory grows with the number of
 /// placements.
+#[derive(Drop)]
 pub struct BookSink<K> {
     book: Book,
     /// How many base batches were accepted.
@@ -104,6 +105,13 @@ impl<K> BookSink<K> {
         ensures { result.now ≡ self.now.book }
     {
         &self.book
+    }
+
+    /// Whether a write to `keep` has failed.
+    pub(crate) fn has_stopped(&self) -> bool
+        ensures { result ≡ self.now.keeping.stopped }
+    {
+        self.keeper.keeping.stopped
     }
 
     /// `keep`, the writer of accepted rows, in its state after the last call.

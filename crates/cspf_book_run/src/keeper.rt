@@ -15,6 +15,7 @@ use std::io::Write;
 use std::mem;
 
 /// The writer `keep`, and whether a write to it has failed.
+#[derive(Drop)]
 pub struct Keeping<K> {
     pub(crate) keep: K,
     pub(crate) stopped: bool,
@@ -41,6 +42,7 @@ impl From<AllocError> for Unkept {
 }
 
 /// Takes the versions of a run's book, and writes the text of the row that makes each of them.
+#[derive(Drop)]
 pub struct Keeper<K> {
     pub(crate) keeping: Keeping<K>,
     /// The text of the row that is answered.

@@ -2,9 +2,11 @@
 //! contract is the law.
 ghost use Rattle.cspf_book_run.specs.BookScript.{book_start};
 ghost use Rattle.cspf_book_run.specs.BookScriptLaws.{BooksHaveOneReply, IsBookCovered, IsBookInRange, RowsCoverSince, BaseLinesAreExact, OnlyChangersSayOver, RowsKeepRange};
+ghost use Rattle.cspf_book_run.specs.Compacts.{CompactsMakeBooks};
 ghost use Rattle.cspf_book_run.specs.KeptLaws.{KeptIsTheBook, KeptRunIsTheBook, RunsStopOnce};
 ghost use Rattle.cspf_book_run.specs.WrongRuns.{WeakerLawsFollow, ExcuseEndsWithCover, OtherLinkIsNoExcuse, OtherPriorityIsNoExcuse, UntrueOverIsRefused};
 
+use crate::held_row::held_rows_are_read_back;
 use cspf_addr::{addresses_are_spelled_once, masks_are_spelled};
 use cspf_ero::one_reply_line;
 use cspf_model::{one_best_answer, one_refusal};
@@ -92,4 +94,17 @@ pub fn kept_is_the_book()
     rows_are_read();
     rows_are_read_back();
     masks_are_spelled();
+}
+
+/// Law: the shortest stream of a book makes its base and its placements.
+pub fn compacts_make_books()
+    ensures { CompactsMakeBooks }
+{
+    // Laws: the record that is written for a row is read as this row, the text of a mask is read as
+    // this mask, and the `held` row of a placement is read as this placement. The placements of a
+    // book may be restored in their order.
+    rows_are_read_back();
+    masks_are_spelled();
+    held_rows_are_read_back();
+    cspf_book::compact_is_the_book();
 }

@@ -16,6 +16,9 @@ mod book_row;
 mod book_row_error;
 mod book_rows;
 mod book_sink;
+mod compact;
+mod compact_run;
+mod compact_stop;
 mod held_refusal;
 mod held_row;
 mod keeper;
@@ -28,17 +31,22 @@ mod refusals;
 mod route_field;
 mod row_text;
 mod run;
+mod settled;
 
 pub use book_row::BookRow;
 pub use book_row_error::BookRowError;
+pub use compact_run::{run_compact, run_torn_compact};
+pub use compact_stop::CompactStop;
 pub use cspf_solve::{SolveError, Summary};
+pub use cspf_stream::StreamError;
 pub use held_refusal::HeldRefusal;
 pub use held_row::{held_row_text, held_rows_are_read_back};
 pub use laws::{
-    covered_books, kept_is_the_book, one_reply_of_books, runs_stop_once, sums_stay_small,
-    worked_covers,
+    compacts_make_books, covered_books, kept_is_the_book, one_reply_of_books, runs_stop_once,
+    sums_stay_small, worked_covers,
 };
 pub use limits::MOST_PLACING_VERSIONS;
 pub use refusals::{PlaceRefusal, ReleaseRefusal};
 pub use route_field::{read_steps, route_text, route_texts_are_read_back};
 pub use run::run_book;
+pub use settled::settled_part;

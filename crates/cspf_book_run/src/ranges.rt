@@ -1,16 +1,26 @@
-//! The numbers of a placement are in the ranges of their types. The functions of this file only read
+//! The numbers of placements and of batches are in the ranges of their types. The functions of this file only read
 //! these numbers, and a contract says in which ranges they are.
 
 ghost use Rattle.std.specs.Prelude.{◌^◌, ◌<◌};
 ghost use Rattle.std.specs.List.{AllByRecursion};
 ghost use Rattle.cspf_addr.specs.PrefixParts.{IsPrefix};
-ghost use Rattle.cspf_rows.specs.Written.{IsRequestInRange};
+ghost use Rattle.cspf_rows.specs.JournalLaws.{AreInRange, IsChangeInRange};
+ghost use Rattle.cspf_rows.specs.Written.{IsLinkInRange, IsRequestInRange};
 ghost use Rattle.cspf_book_run.specs.HeldRows.{AreMasksInRange, IsPlacementInRange};
 ghost use Rattle.cspf_book_run.specs.RouteText.{IsPassedInRange};
 
 use cspf_addr::{Addr, Hop, Mask};
 use cspf_book::{Passed, Placement};
-use cspf_model::Request;
+use cspf_model::{Batch, Change, Link, Request};
+
+/// The numbers of each placement are in range.
+pub(crate) fn placements_in_range(placements: &[Placement])
+    ensures { AllByRecursion IsPlacementInRange placements.now }
+{
+    for placement in placements {
+        placement_in_range(placement);
+    }
+}
 
 /// The numbers of the placement are in range.
 pub(crate) fn placement_in_range(placement: &Placement)
@@ -87,4 +97,50 @@ fn mask_in_range(mask: Mask)
     ensures { mask < 2 ^ 32 }
 {
     let _bits = mask.bits();
+}
+
+/// The numbers of the changes of each batch are in range.
+pub(crate) fn batches_in_range(batches: &[Batch])
+    ensures { AreInRange batches.now }
+{
+    for batch in batches {
+        changes_in_range(&batch.changes);
+    }
+}
+
+/// The numbers of each change are in range.
+fn changes_in_range(changes: &[Change])
+    ensures { AllByRecursion IsChangeInRange changes.now }
+{
+    for change in changes {
+        change_in_range(change);
+    }
+}
+
+/// The numbers of a change are in range.
+fn change_in_range(change: &Change)
+    ensures { IsChangeInRange change.now }
+{
+    match change {
+        Change::Put(link) => link_in_range(link),
+        Change::Remove { from, local } => {
+            address_in_range(*from);
+            address_in_range(*local);
+        }
+        Change::Node { router, transit: _ } => address_in_range(*router),
+    }
+}
+
+/// The numbers of a link are in range.
+fn link_in_range(link: &Link)
+    ensures numbers { IsLinkInRange link.now }
+    ensures group { link.now.group < 2 ^ 32 }
+{
+    address_in_range(link.from);
+    address_in_range(link.local);
+    address_in_range(link.to);
+    address_in_range(link.remote);
+    mask_in_range(link.group);
+    let _metric = link.metric;
+    let [_a, _b, _c, _d, _e, _f, _g, _h] = link.free;
 }

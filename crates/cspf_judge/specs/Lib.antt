@@ -1,6 +1,4 @@
 -- The definitions that this crate's contracts use.
-pub mod Snapshots
-pub mod SnapshotLaws
 pub mod Replays
 pub mod Lines
 pub mod Asks

@@ -7,7 +7,7 @@ use Rattle.cspf_model.specs.declared.refusal.Refusal.{Refusal}
 use Rattle.cspf_model.specs.Numbered.{NumberedChanges}
 use Rattle.cspf_model.specs.Changes.{AreLawful, database_after}
 use Rattle.cspf_rows.specs.JournalLaws.{journal_text}
-use Rattle.cspf_judge.specs.Snapshots.{IsSnapshot}
+use Rattle.cspf_snapshot.specs.Snapshots.{IsSnapshot}
 use Rattle.cspf_judge.specs.EarlyEnds.{HasBegun, Writes}
 use Rattle.cspf_judge.specs.Inputs.{AreBatchesOf, IsJournalRefused}
 use Rattle.cspf_stream.specs.Lines.{refused_batch_line}

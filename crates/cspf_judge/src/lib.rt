@@ -8,10 +8,8 @@
 //! `audit_with_questions` and `run_audit_with_questions` do the same for rows that also ask questions.
 //! `specs/Asked.antt` defines these rows and their lines, and `specs/QuestionAudits.antt` the audit.
 //!
-//! `snapshot` makes the few batches that make a table's database from the empty database, and
-//! `replay` makes the table that batches lead to. `specs/Snapshots.antt` defines the snapshot of a
-//! database, and `specs/SnapshotLaws.antt` says that a database has only one snapshot.
-//! `specs/Replays.antt` defines why batches can't be replayed. `run_snapshot` writes the snapshot of
+//! `replay` makes the table that batches lead to. `specs/Replays.antt` defines why batches can't be
+//! replayed. `run_snapshot` writes the snapshot of
 //! a journal's last database, and `specs/SnapshotRun.antt` defines its output.
 //!
 //! The crate also has the code that all runs over a journal and requests share. `specs/Inputs.antt`
@@ -30,9 +28,10 @@ mod snapshots;
 
 pub use audit_run::{run_audit, run_audit_with_questions};
 pub use audits::{Audit, AuditError, AuditFault, QuestionAuditError, audit, audit_with_questions};
+pub use cspf_snapshot::{MOST_SNAPSHOT_BATCHES, one_snapshot, snapshot};
 pub use early_end::{EarlyEnd, JudgeError};
 pub use input::{accept_rest, batches_of, journal_end_of, requests_of};
 pub use line::JudgeLine;
 pub use output::{put, put_line, refuse};
 pub use snapshot_run::run_snapshot;
-pub use snapshots::{MOST_SNAPSHOT_BATCHES, ReplayError, one_snapshot, replay, snapshot};
+pub use snapshots::{ReplayError, replay};

@@ -3,12 +3,15 @@
 
 use crate::devices::{INPUT, NewFile, OUTPUT, created, flushed, held_places};
 use crate::noted::Noted;
-use crate::options::{Asked, Call, CommandOption, CommandText, EXPLAIN, KEEP};
-use crate::standard_error::say_at;
+use crate::options::{
+    ACCEPT_TORN, Asked, COMPACT, Call, CommandOption, CommandText, EXPLAIN, KEEP,
+};
+use crate::standard_error::{say_at, say_of};
+use crate::statuses::UNFIT;
 use crate::stopped::{Ran, Stopped};
-use cspf_book_run::run_book;
-use std::io;
-use std::io::Write;
+use cspf_book_run::{CompactStop, run_book, run_compact, run_torn_compact};
+use std::io::{Read, Write};
+use std::{fmt, io, str};
 
 /// The command with its options.
 pub const COMMAND: CommandText = CommandText {
@@ -16,7 +19,12 @@ pub const COMMAND: CommandText = CommandText {
     name: "book",
     about: "Places requests of standard input one after the other, and counts their bandwidth",
     help: HELP,
-    options: &[CommandOption::Keep, CommandOption::Explain],
+    options: &[
+        CommandOption::Keep,
+        CommandOption::Compact,
+        CommandOption::AcceptTornBook,
+        CommandOption::Explain,
+    ],
 };
 
 /// The help text below the options.
@@ -64,7 +72,17 @@ and goes on:
 A file that is there already is left as it is. If a write to it fails after W bytes of a row, or of a
 batch, the row is refused by keep W, and each later end, place, held, offer and release row by stopped;
 other rows are answered on. The W bytes may stay at the end of the file. Before it is read, take out what
-follows its last whole line that begins with end, place, held or release.
+follows its last whole line that begins with end, place, held or release, or use --accept-torn.
+
+With --compact standard output has the shortest rows that make the same book, and nothing before them: a
+snapshot of the base (routed snapshot --help) in at most 5 batches, then a held row for each placement.
+Versions and the numbers of batches begin anew there. Any number of rows is read, so a book goes on day
+after day:
+  routed book --compact --accept-torn < KEPT > BEGIN
+  cat BEGIN - | routed book --keep NEXT
+If a row is refused, or changes are open at the end, standard output has only the line that says so.
+--accept-torn leaves out what follows the last whole line that begins with end, place, held or release, as
+a crash may leave it. It keeps all rows in memory.
 
 Rows may be of any length that fits in memory. Standard output must be in blocking mode. If its reader
 exits early (routed book | head -1), the status is 3. A file that reaches the limit of its size
@@ -77,12 +95,16 @@ Status:
   3  out of memory, standard input or output failed, or the file of --keep exists already or can't be
      made; the last line of standard error is routed: stopped, and with --explain the line before it
      says why
-With --explain a line says which write to the file of --keep failed.";
+With --explain a line says which write to the file of --keep failed; with --compact which row is refused,
+and how many bytes are left out.";
 
 /// Answers the rows of standard input on standard output. With `--keep` the accepted rows are
-/// written to a new file. The lines that were written before a fault remain.
+/// written to a new file. The lines that were written before a fault remain. With `--compact` the
+/// shortest rows that make the same book are written.
 pub(crate) fn answer(call: &Call<'_, '_>) -> Ran {
-    if call.gives(KEEP) {
+    if call.has(COMPACT) {
+        write_compact(call)
+    } else if call.gives(KEEP) {
         // If standard streams are closed, other files take their descriptors. So the new file isn't
         // mistaken for a standard stream.
         let _held = held_places(call.rt);
@@ -112,5 +134,83 @@ fn answer_rows<K: Write>(rt: &HostRuntime, keep: &mut Noted<K>) -> Ran {
     match ran {
         Ok(summary) => flushed(&mut out, Ok(summary.status())),
         Err(error) => Err(Stopped::Solve(error).by(reader.fault(), out.fault())),
+    }
+}
+
+/// Writes the shortest rows that make the book of standard input. If a row is refused or changes are
+/// open at the end, writes the line that says so.
+fn write_compact(call: &Call<'_, '_>) -> Ran {
+    let mut reader = Noted::new(INPUT, call.rt.reader());
+    match compacted(call, &mut reader) {
+        Ok(text) => write_all(call, &text, 0),
+        Err(CompactStop::Refused { row, line }) => {
+            explain_refused(call, Some(row), &line);
+            write_all(call, &line, UNFIT)
+        }
+        Err(CompactStop::Unended { line }) => {
+            explain_refused(call, None, &line);
+            write_all(call, &line, UNFIT)
+        }
+        Err(CompactStop::Stream(error)) => Err(Stopped::Stream(error).by(reader.fault(), None)),
+    }
+}
+
+/// The shortest rows that make the book of standard input. With `--accept-torn` the end of the input
+/// may be torn, and with `--explain` a line says how much is left out.
+fn compacted<R: Read + Drop>(call: &Call<'_, '_>, reader: R) -> Result<Vec<u8>, CompactStop> {
+    if !call.has(ACCEPT_TORN) {
+        return run_compact(call.rt.alloc(), reader);
+    }
+    let (made, left) = run_torn_compact(call.rt.alloc(), reader);
+    if call.has(EXPLAIN) && left > 0 {
+        say_of(call.rt, INPUT, &LeftOut { bytes: left });
+    }
+    made
+}
+
+/// Writes a text to standard output, and returns the status.
+fn write_all(call: &Call<'_, '_>, text: &[u8], status: u8) -> Ran {
+    let mut out = Noted::new(OUTPUT, io::writer(call.rt));
+    match out.write_all(text) {
+        Ok(()) => flushed(&mut out, Ok(status)),
+        Err(error) => Err(Stopped::at(OUTPUT, "write", error)),
+    }
+}
+
+/// With `--explain`, writes which row is refused, and why. Without a row, it is the end of the rows.
+fn explain_refused(call: &Call<'_, '_>, row: Option<u64>, line: &[u8]) {
+    if call.has(EXPLAIN) {
+        if let Ok(line) = str::from_utf8(line) {
+            let line = line.trim_end();
+            match row {
+                Some(row) => say_of(call.rt, INPUT, &RefusedLine { row, line }),
+                None => say_of(call.rt, INPUT, &line),
+            }
+        }
+    }
+}
+
+/// A row that is refused, and the line that refuses it.
+#[derive(Clone, Copy)]
+struct RefusedLine<'a> {
+    row: u64,
+    line: &'a str,
+}
+
+impl<'a> fmt::Display for RefusedLine<'a> {
+    fn fmt<W: fmt::Write>(&self, f: &mut fmt::Formatter<W>) -> fmt::Result {
+        write!(f, "row {}: {}", self.row, self.line)
+    }
+}
+
+/// How many bytes of a torn input are left out.
+#[derive(Clone, Copy)]
+struct LeftOut {
+    bytes: usize,
+}
+
+impl fmt::Display for LeftOut {
+    fn fmt<W: fmt::Write>(&self, f: &mut fmt::Formatter<W>) -> fmt::Result {
+        write!(f, "{} bytes left out", self.bytes)
     }
 }

@@ -24,7 +24,11 @@ pub const REPLIES: &str = "replies";
 /// The option that gives the path of the file of the rows that `book` accepts.
 pub const KEEP: &str = "keep";
 
-/// The flag to skip the rows after the last whole batch.
+/// The flag with which `book` writes the shortest stream that makes the same book.
+pub const COMPACT: &str = "compact";
+
+/// The flag to skip the rows after the last whole batch. In `book`, it also skips what follows the
+/// last whole row about a placement.
 pub const ACCEPT_TORN: &str = "accept-torn";
 
 /// The flag with which a run writes why it stops.
@@ -73,6 +77,11 @@ pub enum CommandOption {
     Replies,
     /// The new file of the accepted rows.
     Keep,
+    /// Whether the shortest stream of a book is written.
+    Compact,
+    /// Whether to skip what follows the last whole batch, or the last whole row about a placement, of
+    /// a book.
+    AcceptTornBook,
     /// The two files of each client.
     Clients,
     /// A file that names the two files of each client.
@@ -106,6 +115,7 @@ impl CommandOption {
             CommandOption::Requests => REQUESTS,
             CommandOption::Replies => REPLIES,
             CommandOption::Keep => KEEP,
+            CommandOption::Compact => COMPACT,
             CommandOption::Clients => CLIENT,
             CommandOption::ClientsFrom => CLIENTS_FROM,
             CommandOption::Workers => WORKERS,
@@ -115,7 +125,7 @@ impl CommandOption {
             CommandOption::Pairs => PAIRS,
             CommandOption::Reopen => REOPEN,
             CommandOption::Figures => FIGURES,
-            CommandOption::AcceptTorn => ACCEPT_TORN,
+            CommandOption::AcceptTorn | CommandOption::AcceptTornBook => ACCEPT_TORN,
             CommandOption::Explain => EXPLAIN,
         }
     }
@@ -129,6 +139,11 @@ impl CommandOption {
             CommandOption::Requests => "The file of requests",
             CommandOption::Replies => "The file of replies",
             CommandOption::Keep => "The file to make of the rows that are accepted",
+            CommandOption::Compact =>
+                "Write the shortest rows that make the same book, and no other line",
+            CommandOption::AcceptTornBook => {
+                "Leave out what follows the last whole end, place, release or held row; with --compact"
+            }
             CommandOption::Clients => {
                 "The files of a client's requests and replies; once for each client"
             }
@@ -164,8 +179,22 @@ impl CommandOption {
     }
 
     /// The option in the form that `clap` uses.
-    fn arg<'a>(self, alloc: Global) -> Arg<'a> {
+    fn arg<'a>(self, alloc: Global) -> Result<Arg<'a>, AllocError> {
         let arg = named(alloc, self.name(), self.help());
+        match self {
+            CommandOption::Compact => arg.action(ArgAction::SetTrue).conflicts_with(KEEP),
+            // `--compact` has to be given, but `clap` doesn't ask for an option beside one that it
+            // can't be given with.
+            CommandOption::AcceptTornBook => arg
+                .action(ArgAction::SetTrue)
+                .requires_arg(COMPACT)?
+                .conflicts_with(KEEP),
+            other => Ok(other.alone(arg)),
+        }
+    }
+
+    /// The option in the form that `clap` uses, if it may be given beside each other option.
+    fn alone<'a>(self, arg: Arg<'a>) -> Arg<'a> {
         match self {
             CommandOption::Clients => arg.value_name("IN=OUT").action(ArgAction::Append),
             CommandOption::ClientsFrom | CommandOption::Keep | CommandOption::Figures => {
@@ -243,7 +272,7 @@ impl CommandText {
             .about(self.about)
             .after_help(self.help);
         for option in self.options {
-            command = command.arg(option.arg(alloc))?;
+            command = command.arg(option.arg(alloc)?)?;
         }
         Ok(command)
     }

@@ -1,7 +1,0 @@
-//! Law of the definitions in `specs/`. The function does nothing: its contract is the law.
-ghost use Rattle.cspf_judge.specs.SnapshotLaws.{OneSnapshot};
-
-/// Law: a database has at most one snapshot.
-pub fn one_snapshot()
-    ensures { OneSnapshot }
-{}
