@@ -26,7 +26,7 @@ use Rattle.cspf_book_run.specs.declared.book_row_error.BookRowError.{BookRowErro
 use Rattle.cspf_book_run.specs.PlacementLines.{held_line}
 use Rattle.cspf_book_run.specs.BookRows.{book_row_of}
 use Rattle.cspf_book_run.specs.BookLines.{over_line, lost_line, base_line}
-use Rattle.cspf_book_run.specs.BookScript.{BookRunState, book_start, book_answers, changers, after_base_batch, after_held, held_lines, AreBaseLines, IsBookStepAnswered, IsBookRowAnswered}
+use Rattle.cspf_book_run.specs.BookScript.{BookRunState, name_of, book_start, book_answers, changers, after_base_batch, after_held, held_lines, AreBaseLines, IsBookStepAnswered, IsBookRowAnswered}
 use Rattle.cspf_book_run.specs.BookScriptLaws.{IsBookCovered, IsSaidOver, RowsCoverSince}
 use Rattle.cspf_book_run.specs.BookStates.{IsReadable}
 use Rattle.cspf_book_run.proofs.BookRowLemmas.{readable_row}
@@ -146,7 +146,7 @@ module _ (l : Link) (priority : ℕ) where
               let said = said_among (over s.book.placements s.changes) (over_at l priority) named in
               let first : List ℕ = flat_map over_line (over s.book.placements s.changes) in
               let second : List ℕ = flat_map lost_line ids in
-              let third : List ℕ = base_line number (s.book.version + 1) in
+              let third : List ℕ = base_line number (name_of s (s.book.version + 1)) in
               inr (inr (omega arith, said_first line first (second ++ third) (is ∙ append_assoc first second third) said))
         ]
       ];
@@ -164,7 +164,7 @@ module _ (l : Link) (priority : ℕ) where
           | inr named ↦
               let said = said_among (made_over s.book.base s.book.placements p) (over_at l priority) named in
               let first : List ℕ = flat_map over_line (made_over s.book.base s.book.placements p) in
-              inr (inr (omega arith, said_first line first (held_line (id_of p) (s.book.version + 1)) is said))
+              inr (inr (omega arith, said_first line first (held_line (id_of p) (name_of s (s.book.version + 1))) is said))
         ]
       ];
     })

@@ -27,7 +27,7 @@ use Rattle.cspf_book_run.specs.declared.refusals.PlaceRefusal.TheVariants as unp
 use Rattle.cspf_book_run.specs.declared.refusals.ReleaseRefusal.{ReleaseRefusal}
 use Rattle.cspf_book_run.specs.declared.refusals.ReleaseRefusal.TheVariants as unreleased
 use Rattle.cspf_book_run.specs.BookLines.{IsPlaceReply}
-use Rattle.cspf_book_run.specs.BookScript.{BookRunState, after_answer, IsBaseEndAnswered, IsAskAnswered, IsPlaceRefusal, IsPlaceAnswered, IsPlaceTaken, IsHeldRefusal, IsHeldTaken, IsOfferAnswered, IsOfferTaken, IsReleaseRefusal, IsReleaseTaken, IsBookStepAnswered, IsBookRowAnswered}
+use Rattle.cspf_book_run.specs.BookScript.{BookRunState, name_of, after_answer, IsBaseEndAnswered, IsAskAnswered, IsPlaceRefusal, IsPlaceAnswered, IsPlaceTaken, IsHeldRefusal, IsHeldTaken, IsOfferAnswered, IsOfferTaken, IsReleaseRefusal, IsReleaseTaken, IsBookStepAnswered, IsBookRowAnswered}
 use Rattle.cspf_book_run.specs.PlacementLines.{IsOfferReply}
 use Rattle.cspf_book_run.proofs.LostOnce.{lost_once}
 use Rattle.cspf_book_run.proofs.Looks.{shown_once, left_once}
@@ -145,9 +145,9 @@ module _ (best : OneBestAnswer) (s : BookRunState) (q : Request) (hold : ℕ) wh
   answer_once reply l m a b x y =
       let same : x.answer ≡ y.answer = best _ q x.answer y.answer x.best y.best in
       let book : a ≡ b = book_once s.book q hold y.answer a b (subst (λ (z : Answer). IsAnswerPlaced s.book q hold z a) same x.placed) y.placed in
-      let first : IsPlaceReply q.id b.version y.answer l =
-      subst (λ (c : BookState). IsPlaceReply q.id c.version y.answer l) book (subst (λ (z : Answer). IsPlaceReply q.id a.version z l) same x.reply) in
-      (place_reply_once reply q.id b.version y.answer l m first y.reply, book)
+      let first : IsPlaceReply q.id (name_of s b.version) y.answer l =
+      subst (λ (c : BookState). IsPlaceReply q.id (name_of s c.version) y.answer l) book (subst (λ (z : Answer). IsPlaceReply q.id (name_of s a.version) z l) same x.reply) in
+      (place_reply_once reply q.id (name_of s b.version) y.answer l m first y.reply, book)
 
   place_once : HasOneReplyLine → (l m : List ℕ) (t u : BookRunState) → IsPlaceTaken s q hold l t → IsPlaceTaken s q hold m u → SameBookReply l t m u
   place_once reply l m t u (inl (x, after)) (inl (y, after2)) =
@@ -161,7 +161,7 @@ module _ (best : OneBestAnswer) (s : BookRunState) (q : Request) (hold : ℕ) wh
   offer_once : HasOneReplyLine → (l m : List ℕ) (t u : BookRunState) → IsOfferTaken s q hold l t → IsOfferTaken s q hold m u → SameBookReply l t m u
   offer_once reply l m t u (inl (x, after)) (inl (y, after2)) =
       let same : x.answer ≡ y.answer = best _ q x.answer y.answer x.best y.best in
-      (offer_reply_once reply q.id s.book.version y.answer l m (subst (λ (z : Answer). IsOfferReply q.id s.book.version z l) same x.reply) y.reply, after ∙ sym after2)
+      (offer_reply_once reply q.id (name_of s s.book.version) y.answer l m (subst (λ (z : Answer). IsOfferReply q.id (name_of s s.book.version) z l) same x.reply) y.reply, after ∙ sym after2)
   offer_once reply l m t u (inl (x, after)) (inr (why, r, line, after2)) = absurd (not_refused x.placed (of_offer l x) why r)
   offer_once reply l m t u (inr (why, r, line, after2)) (inl (x, after)) = absurd (not_refused x.placed (of_offer m x) why r)
   offer_once reply l m t u (inr (why, r, line, after)) (inr (why2, r2, line2, after2)) =

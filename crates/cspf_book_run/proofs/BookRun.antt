@@ -1,8 +1,10 @@
 -- How the answers of the code make up the lines and the summary of a run of a book, and how such a
 -- run stops.
-use Rattle.std.proofs.Common.{◌≡◌, ◌==◌, ℕ, suc, ◌+◌, ◌<◌, Bool, true, false, cond, List, [], ◌∷◌, ◌++◌, take, length, Option, Some, None, IfSome, Result, Ok, Err, inl, inr, refl, sym, ap, subst, ◌∙◌, append-nil, arith}
+use Rattle.std.proofs.Common.{◌≡◌, ◌==◌, ℕ, suc, ◌+◌, ◌<◌, Bool, true, false, cond, List, [], ◌∷◌, ◌++◌, take, length, Option, Some, None, IfSome, Result, Ok, Err, inl, inr, refl, sym, ap, subst, ◌∙◌, append-nil, eq-eqb, arith}
 use Rattle.std.proofs.KnownBytes.{Appends-nil, Appends-trans}
 use Rattle.std.proofs.lemmas.Bool.{cases_Bool}
+use Rattle.cspf_book_run.proofs.BookSteps.{another_version}
+use Rattle.cspf_book.specs.BookState.{BookState}
 use Rattle.std.specs.Io.KnownBytes.{Appends}
 use Rattle.std.specs.declared.alloc.AllocError.{AllocError}
 use Rattle.cspf_rows.specs.Records.{rows_of}
@@ -26,9 +28,10 @@ use Rattle.cspf_book_run.specs.BookRows.{book_row_of}
 use Rattle.cspf_book_run.specs.BookScript.{BookRunState, book_start, book_summary_of, IsBookRowAnswered}
 use Rattle.cspf_book_run.specs.BookOutput.{AreFirstBookRows, IsBookBegun, IsNextBookText, IsBookOutputAtError}
 use Rattle.cspf_book_run.specs.BookStates.{KeepsBook, IsBookBefore, AreBookCounts}
-use Rattle.cspf_book_run.specs.Kept.{kept_of}
+use Rattle.cspf_book_run.specs.Kept.{kept_of, text_of_row}
+use Rattle.cspf_book_run.specs.Keeping.{writer_spec}
 use Rattle.cspf_book_run.specs.KeptRuns.{KeptRunState, kept_start, kept_run_answers, AreKeptRowsAnswered, IsRowCutOff, IsAnsweredStopped, IsBookRun}
-use Rattle.cspf_book_run.specs.KeptStates.{kept_as, IsRowFailed, IsAnsweredDone, IsAnsweredLost, IsBookAnswer, IsBookAnswerLost, IsBookLast}
+use Rattle.cspf_book_run.specs.KeptStates.{IsRowFailed, IsAnsweredDone, IsAnsweredLost, IsBookAnswer, IsBookAnswerLost, IsBookLast}
 
 abbrev Rows : Type 0
 Rows = List (List (List ℕ))
@@ -38,10 +41,14 @@ no_bytes = []
 
 -- ---- one row
 
--- If the fields are read as `row`, the text that goes to the writer `keep` is `kept_as` of this
--- row.
-kept_same : (s t : BookRunState) (fields : List (List ℕ)) (row : BookRow) → book_row_of fields ≡ Ok row → kept_as s fields row t ≡ kept_of s fields t
-kept_same s t fields row read = rw read refl
+-- If the fields are read as `row` and the book has the next version, the text of the row is what goes
+-- to the writer `keep`.
+kept_whole : (s t : BookRunState) (fields : List (List ℕ)) (row : BookRow) → book_row_of fields ≡ Ok row → t.book.version ≡ s.book.version + 1 → text_of_row s fields (Ok row) ≡ kept_of s fields t
+kept_whole s t fields row read rises = rw (another_version s.book.version t.book.version rises) (rw read refl)
+
+-- If the book is unchanged, nothing goes to the writer `keep`.
+kept_none : (s t : BookRunState) (fields : List (List ℕ)) → t.book ≡ s.book → no_bytes ≡ kept_of s fields t
+kept_none s t fields same = rw (eq-eqb t.book.version s.book.version (ap (λ (b : BookState). b.version) same)) refl
 
 no_text_at_all : (b : Bool) → no_bytes ≡ cond b no_bytes no_bytes
 no_text_at_all true = refl
@@ -84,7 +91,7 @@ module _ {K : Type 0} (contents : K → Option (List ℕ)) (place : ℕ) (s : Ke
 
   -- The write of the row's text fails, and the row is refused.
   pub cut_off_row : (line : List ℕ) (t : BookRunState) (row : BookRow) (old new : Keeping K) → book_row_of fields ≡ Ok row → old.stopped ≡ s.stopped
-      → (f : IsRowFailed contents s.run fields row line t old new) → IsRowCutOff place s fields line (stopped_at t (take f.written (kept_as s.run fields row f.next)))
+      → (f : IsRowFailed (writer_spec contents) s.run fields row line t old new) → IsRowCutOff place s fields line (stopped_at t (take f.written (text_of_row s.run fields (Ok row))))
   cut_off_row line t row old new read stands f = (
     sym stands ∙ f.going,
     refl,
@@ -93,33 +100,35 @@ module _ {K : Type 0} (contents : K → Option (List ℕ)) (place : ℕ) (s : Ke
       lines = f.lines;
       next = f.next;
       accepted = as_read f.lines f.next (Ok row) read f.accepted;
-      part = subst (λ (x : List ℕ). f.written < length x) (kept_same s.run f.next fields row read) f.cut_off.part;
+      part = subst (λ (x : List ℕ). f.written < length x) (kept_whole s.run f.next fields row read f.cut_off.1.version) f.cut_off.2.part;
       row = row;
       read = read;
       refused = f.refused;
     },
-    ap (λ (x : List ℕ). s.kept ++ take f.written x) (kept_same s.run f.next fields row read),
+    ap (λ (x : List ℕ). s.kept ++ take f.written x) (kept_whole s.run f.next fields row read f.cut_off.1.version),
   )
 
   said : (line : List ℕ) (t : BookRunState) (row : Result BookRow BookRowError) (old new : Keeping K) → book_row_of fields ≡ row → old.stopped ≡ s.stopped
-      → IsAnsweredDone contents place s.run fields row line t old new → IsRowSaid line t old new
+      → IsAnsweredDone (writer_spec contents) place s.run fields row line t old new → IsRowSaid line t old new
   said line t (Err e) old new read stands (a, same) = elim (cases_Bool s.stopped) [
     | inl stopped ↦ nothing_more line t old new same true (stands ∙ stopped) (inr (inr (stopped, refl, stopped_as_read line t (Err e) read a, append-nil s.kept)))
     | inr going ↦
         nothing_more line t old new same false (stands ∙ going) (inl (going, refl, as_read line t (Err e) read a, ap (λ (x : List ℕ). s.kept ++ x) (unread_text s.run t fields e read)))
   ]
-  said line t (Ok row) old new read stands (inl (going, taken, written)) = record {
+  said line t (Ok row) old new read stands (inl (going, taken, inl (unchanged, same))) =
+      nothing_more line t old new same false going (inl (sym stands ∙ going, refl, as_read line t (Ok row) read taken, ap (λ (x : List ℕ). s.kept ++ x) (kept_none s.run t fields unchanged)))
+  said line t (Ok row) old new read stands (inl (going, taken, inr (batch, leads, written))) = record {
     stopped = false;
-    more = kept_as s.run fields row t;
+    more = text_of_row s.run fields (Ok row);
     stops = written.same ∙ going;
     written = written.written;
-    answered = inl (sym stands ∙ going, refl, as_read line t (Ok row) read taken, ap (λ (x : List ℕ). s.kept ++ x) (kept_same s.run t fields row read));
+    answered = inl (sym stands ∙ going, refl, as_read line t (Ok row) read taken, ap (λ (x : List ℕ). s.kept ++ x) (kept_whole s.run t fields row read leads.version));
   }
   said line t (Ok row) old new read stands (inr (inl f)) = record {
     stopped = true;
-    more = take f.written (kept_as s.run fields row f.next);
-    stops = f.cut_off.stops;
-    written = f.cut_off.front;
+    more = take f.written (text_of_row s.run fields (Ok row));
+    stops = f.cut_off.2.stops;
+    written = f.cut_off.2.front;
     answered = inr (inl (cut_off_row line t row old new read stands f));
   }
   said line t (Ok row) old new read stands (inr (inr (stops, a, same))) =
@@ -127,21 +136,21 @@ module _ {K : Type 0} (contents : K → Option (List ℕ)) (place : ℕ) (s : Ke
 
 -- ---- all rows
 
-module _ {K : Type 0} (contents : K → Option (List ℕ)) (k : BookRows K) (fresh : KeepsBook k.rows book_start) (going : k.rows.sink.keeping.stopped ≡ false) (first : IsBookBefore 1 k) where
-  abbrev keep_of : BookRows K → Option (List ℕ)
+module _ {K : Type 0} (contents : K → Option (List ℕ)) (k : BookRows (Keeping K)) (fresh : KeepsBook k.rows book_start) (going : k.rows.sink.keeping.stopped ≡ false) (first : IsBookBefore 1 k) where
+  abbrev keep_of : BookRows (Keeping K) → Option (List ℕ)
   keep_of b = contents b.rows.sink.keeping.keep
 
-  abbrev Fails : AllocError → FailsOf (BookRows K)
-  Fails fault = IsBookAnswerLost contents
+  abbrev Fails : AllocError → FailsOf (BookRows (Keeping K))
+  Fails fault = IsBookAnswerLost (writer_spec contents)
 
   -- before the row with this number the code is in this state of the run
-  record IsBookAt (place : ℕ) (b : BookRows K) (s : KeptRunState) : Type 0 where
+  record IsBookAt (place : ℕ) (b : BookRows (Keeping K)) (s : KeptRunState) : Type 0 where
     keeps : KeepsBook b.rows s.run
     stopped : b.rows.sink.keeping.stopped ≡ s.stopped
     before : IsBookBefore place b
     written : Appends (keep_of k) (keep_of b) s.kept
 
-  one_row : (place : ℕ) (b b' : BookRows K) (s : KeptRunState) (fields : List (List ℕ)) (line : List ℕ) → IsBookAt place b s → IsBookAnswer contents place b fields line b'
+  one_row : (place : ℕ) (b b' : BookRows (Keeping K)) (s : KeptRunState) (fields : List (List ℕ)) (line : List ℕ) → IsBookAt place b s → IsBookAnswer (writer_spec contents) place b fields line b'
       → (t : KeptRunState) × IsBookAt (suc place) b' t × kept_run_answers place s fields line t
   one_row place b b' s fields line at a =
       let led = a.lead s.run at.keeps in
@@ -157,13 +166,13 @@ module _ {K : Type 0} (contents : K → Option (List ℕ)) (k : BookRows K) (fre
         d.answered,
       )
 
-  led : (b : BookRows K) (done : Rows) (lines : List ℕ) → AreAnswered (IsBookAnswer contents) 1 k done lines b
+  led : (b : BookRows (Keeping K)) (done : Rows) (lines : List ℕ) → AreAnswered (IsBookAnswer (writer_spec contents)) 1 k done lines b
       → (t : KeptRunState) × IsBookAt (1 + length done) b t × AreKeptRowsAnswered done lines t
   led b done lines a =
-      carried (IsBookAnswer contents) kept_run_answers IsBookAt one_row 1 k b kept_start done lines
+      carried (IsBookAnswer (writer_spec contents)) kept_run_answers IsBookAt one_row 1 k b kept_start done lines
       (record { keeps = fresh; stopped = going; before = first; written = Appends-nil (keep_of k) }) a
 
-  pub counted_run : (too_many : Bool) (all : Option (List (List (List ℕ)))) (b : BookRows K) (old new : Option (List ℕ)) → HasRun (IsBookAnswer contents) IsBookLast 1000000 too_many all k b old new → AreBookCounts b
+  pub counted_run : (too_many : Bool) (all : Option (List (List (List ℕ)))) (b : BookRows (Keeping K)) (old new : Option (List ℕ)) → HasRun (IsBookAnswer (writer_spec contents)) IsBookLast 1000000 too_many all k b old new → AreBookCounts b
   counted_run too_many all b old new run =
       let before = (led b run.done run.lines run.answered).1.before in
       record {
@@ -173,7 +182,7 @@ module _ {K : Type 0} (contents : K → Option (List ℕ)) (k : BookRows K) (fre
       }
 
   -- the lines and the summary of a run that ends, and what is written to the writer `keep`
-  pub run_ends : (too_many : Bool) (all : Option (List (List (List ℕ)))) (b : BookRows K) (old new : Option (List ℕ)) (summary : Summary) → HasRun (IsBookAnswer contents) IsBookLast 1000000 too_many all k b old new
+  pub run_ends : (too_many : Bool) (all : Option (List (List (List ℕ)))) (b : BookRows (Keeping K)) (old new : Option (List ℕ)) (summary : Summary) → HasRun (IsBookAnswer (writer_spec contents)) IsBookLast 1000000 too_many all k b old new
       → ((s : BookRunState) → KeepsBook b.rows s → summary ≡ book_summary_of b.read s too_many)
       → IfSome all (λ rows. (lines : List ℕ) × (kept : List ℕ) × IsBookRun rows lines kept summary × Appends old new lines
       × Appends (contents k.rows.sink.keeping.keep) (contents b.rows.sink.keeping.keep) kept)
@@ -195,7 +204,7 @@ module _ {K : Type 0} (contents : K → Option (List ℕ)) (k : BookRows K) (fre
         c.1.written,
       )
 
-  begun : (b : BookRows K) (rows : Rows) (old new : Option (List ℕ)) (a : IsPrefixAnswered (IsBookAnswer contents) 1000000 (Some rows) k b old new)
+  begun : (b : BookRows (Keeping K)) (rows : Rows) (old new : Option (List ℕ)) (a : IsPrefixAnswered (IsBookAnswer (writer_spec contents)) 1000000 (Some rows) k b old new)
       → (t : KeptRunState) × IsBookAt (1 + length a.done) b t × AreFirstBookRows rows a.done a.rest a.lines t
   begun b rows old new a =
       let c = led b a.done a.lines a.answered in
@@ -209,34 +218,34 @@ module _ {K : Type 0} (contents : K → Option (List ℕ)) (k : BookRows K) (fre
   abbrev HasBegun : Rows → Option (List ℕ) → Option (List ℕ) → Option (List ℕ) → Type 0
   HasBegun rows old new keep = (out : List ℕ) × (kept : List ℕ) × IsBookBegun rows out kept × Appends old new out × Appends (keep_of k) keep kept
 
-  by_rows : (b : BookRows K) (rows : Rows) (old new : Option (List ℕ)) → IsPrefixAnswered (IsBookAnswer contents) 1000000 (Some rows) k b old new → HasBegun rows old new (keep_of b)
+  by_rows : (b : BookRows (Keeping K)) (rows : Rows) (old new : Option (List ℕ)) → IsPrefixAnswered (IsBookAnswer (writer_spec contents)) 1000000 (Some rows) k b old new → HasBegun rows old new (keep_of b)
   by_rows b rows old new a =
       let c = begun b rows old new a in
       (a.lines, c.0.kept, record { done = a.done; rest = a.rest; after = c.0; first = c.2; whole_kept = refl }, a.written, c.1.written)
 
   -- the run stops because memory is refused between two rows
-  stops_between : (all : Option Rows) (b : BookRows K) (old new : Option (List ℕ)) → IsPrefixAnswered (IsBookAnswer contents) 1000000 all k b old new → IsHalted error.Memory all old new (keep_of b)
+  stops_between : (all : Option Rows) (b : BookRows (Keeping K)) (old new : Option (List ℕ)) → IsPrefixAnswered (IsBookAnswer (writer_spec contents)) 1000000 all k b old new → IsHalted error.Memory all old new (keep_of b)
   stops_between None b old new a = tt
   stops_between (Some rows) b old new a = let h = by_rows b rows old new a in (h.0, h.1, inl h.2, h.3, h.4)
 
-  stops_reading : (all : Option Rows) (b : BookRows K) (old new : Option (List ℕ)) → IsPrefixAnswered (IsBookAnswer contents) 1000000 all k b old new → IsHalted error.Read all old new (keep_of b)
+  stops_reading : (all : Option Rows) (b : BookRows (Keeping K)) (old new : Option (List ℕ)) → IsPrefixAnswered (IsBookAnswer (writer_spec contents)) 1000000 all k b old new → IsHalted error.Read all old new (keep_of b)
   stops_reading None b old new a = tt
   stops_reading (Some rows) b old new a = by_rows b rows old new a
 
-  next_text : (place : ℕ) (b b' : BookRows K) (s : KeptRunState) (done rest : Rows) (text : List ℕ) → IsBookAt place b s → place ≡ suc (length done)
-      → run.IsNextOutput (IsBookAnswer contents) IsBookLast 1000000 done b rest text b'
+  next_text : (place : ℕ) (b b' : BookRows (Keeping K)) (s : KeptRunState) (done rest : Rows) (text : List ℕ) → IsBookAt place b s → place ≡ suc (length done)
+      → run.IsNextOutput (IsBookAnswer (writer_spec contents)) IsBookLast 1000000 done b rest text b'
       → (t : KeptRunState) × IsNextBookText done s rest text t × Appends (keep_of k) (keep_of b') t.kept
   next_text place b b' s done [] text at is next =
-      (s, (next.0 s.run at.keeps, refl), subst (λ (x : BookRows K). Appends (keep_of k) (keep_of x) s.kept) (sym next.1) at.written)
+      (s, (next.0 s.run at.keeps, refl), subst (λ (x : BookRows (Keeping K)). Appends (keep_of k) (keep_of x) s.kept) (sym next.1) at.written)
   next_text place b b' s done (fields ∷ rest) text at is (inl next) =
       let one = one_row (suc (length done)) b b' s fields text (subst (λ (n : ℕ). IsBookAt n b s) is at) next.1 in
       (one.0, inl (next.0, one.2), one.1.written)
   next_text place b b' s done (fields ∷ rest) text at is (inr next) =
-      (s, inr (next.0, next.1 s.run at.keeps, refl), subst (λ (x : BookRows K). Appends (keep_of k) (keep_of x) s.kept) (sym next.2) at.written)
+      (s, inr (next.0, next.1 s.run at.keeps, refl), subst (λ (x : BookRows (Keeping K)). Appends (keep_of k) (keep_of x) s.kept) (sym next.2) at.written)
 
   -- The answer to a row fails because memory is refused. If a write to the writer `keep` failed at
   -- this row, the first bytes of the row's text are written.
-  module _ (rows : Rows) (b b' : BookRows K) (old new : Option (List ℕ)) (a : IsPrefixAnswered (IsBookAnswer contents) 1000000 (Some rows) k b old new) (fields : List (List ℕ)) (more : Rows)
+  module _ (rows : Rows) (b b' : BookRows (Keeping K)) (old new : Option (List ℕ)) (a : IsPrefixAnswered (IsBookAnswer (writer_spec contents)) 1000000 (Some rows) k b old new) (fields : List (List ℕ)) (more : Rows)
       (next : a.rest ≡ fields ∷ more) (few : length a.done < 1000000) where
     same_keep : b'.rows.sink.keeping ≡ b.rows.sink.keeping → IsHalted error.Memory (Some rows) old new (keep_of b')
     same_keep same =
@@ -244,9 +253,9 @@ module _ {K : Type 0} (contents : K → Option (List ℕ)) (k : BookRows K) (fre
         (h.0, h.1, inl h.2, h.3, subst (λ (x : Keeping K). Appends (keep_of k) (contents x.keep) h.1) (sym same) h.4)
 
     unsaid : (s : KeptRunState) → IsBookAt (1 + length a.done) b s → AreFirstBookRows rows a.done a.rest a.lines s → (line : List ℕ) (t : BookRunState) (row : BookRow) → book_row_of fields ≡ Ok row
-        → IsRowFailed contents s.run fields row line t b.rows.sink.keeping b'.rows.sink.keeping → IsHalted error.Memory (Some rows) old new (keep_of b')
+        → IsRowFailed (writer_spec contents) s.run fields row line t b.rows.sink.keeping b'.rows.sink.keeping → IsHalted error.Memory (Some rows) old new (keep_of b')
     unsaid s at begins line t row read f =
-        let text = take f.written (kept_as s.run fields row f.next) in (
+        let text = take f.written (text_of_row s.run fields (Ok row)) in (
           a.lines,
           s.kept ++ text,
           inr (record {
@@ -262,18 +271,18 @@ module _ {K : Type 0} (contents : K → Option (List ℕ)) (k : BookRows K) (fre
             whole_kept = refl;
           }),
           a.written,
-          Appends-trans (keep_of k) (keep_of b) (keep_of b') s.kept text at.written f.cut_off.front,
+          Appends-trans (keep_of k) (keep_of b) (keep_of b') s.kept text at.written f.cut_off.2.front,
         )
 
     lost_at_row : (s : KeptRunState) → IsBookAt (1 + length a.done) b s → AreFirstBookRows rows a.done a.rest a.lines s → (row : Result BookRow BookRowError) → book_row_of fields ≡ row
-        → IsAnsweredLost contents fields row b.rows b'.rows → IsHalted error.Memory (Some rows) old new (keep_of b')
+        → IsAnsweredLost (writer_spec contents) fields row b.rows b'.rows → IsHalted error.Memory (Some rows) old new (keep_of b')
     lost_at_row s at begins (Err e) read lost = same_keep lost
     lost_at_row s at begins (Ok row) read lost = elim (lost s.run at.keeps) [
       | inl same ↦ same_keep same
       | inr (line, t, f) ↦ unsaid s at begins line t row read f
     ]
 
-  stops_at_row : (fault : AllocError) (all : Option Rows) (b : BookRows K) (old new : Option (List ℕ)) → FailsAtRow (IsBookAnswer contents) (Fails fault) 1000000 all k b old new
+  stops_at_row : (fault : AllocError) (all : Option Rows) (b : BookRows (Keeping K)) (old new : Option (List ℕ)) → FailsAtRow (IsBookAnswer (writer_spec contents)) (Fails fault) 1000000 all k b old new
       → IsHalted error.Memory all old new (keep_of b)
   stops_at_row fault None b old new a = tt
   stops_at_row fault (Some rows) b old new a =
@@ -281,8 +290,8 @@ module _ {K : Type 0} (contents : K → Option (List ℕ)) (k : BookRows K) (fre
       lost_at_row rows a.before b old new a.begun a.fields a.more a.next a.few c.0 c.1 c.2 (book_row_of a.fields) refl a.failed
 
   -- the output of a run that stops
-  pub run_stops : (why : RunStop AllocError) (all : Option (List (List (List ℕ)))) (failed : Bool) (b : BookRows K) (old new : Option (List ℕ))
-      → IsRunStopped (IsBookAnswer contents) Fails IsBookLast 1000000 why all failed k b old new
+  pub run_stops : (why : RunStop AllocError) (all : Option (List (List (List ℕ)))) (failed : Bool) (b : BookRows (Keeping K)) (old new : Option (List ℕ))
+      → IsRunStopped (IsBookAnswer (writer_spec contents)) Fails IsBookLast 1000000 why all failed k b old new
       → IfSome all (λ rows. (out : List ℕ) × (kept : List ℕ) × IsBookOutputAtError (solve_error_of why) rows out kept × Appends old new out
       × Appends (contents k.rows.sink.keeping.keep) (contents b.rows.sink.keeping.keep) kept)
   run_stops run_stop.Memory all failed b old new a = stops_between all b old new a
@@ -316,8 +325,8 @@ module _ {K : Type 0} (contents : K → Option (List ℕ)) (k : BookRows K) (fre
         next.2,
       )
 
-  pub read_failed : (why : RunStop AllocError) (all : Option (List (List (List ℕ)))) (failed : Bool) (b : BookRows K) (old new : Option (List ℕ))
-      → IsRunStopped (IsBookAnswer contents) Fails IsBookLast 1000000 why all failed k b old new → solve_error_of why ≡ error.Read → failed ≡ true
+  pub read_failed : (why : RunStop AllocError) (all : Option (List (List (List ℕ)))) (failed : Bool) (b : BookRows (Keeping K)) (old new : Option (List ℕ))
+      → IsRunStopped (IsBookAnswer (writer_spec contents)) Fails IsBookLast 1000000 why all failed k b old new → solve_error_of why ≡ error.Read → failed ≡ true
   read_failed run_stop.Read all failed b old new a is = a.0
   read_failed other all failed b old new a is = absurd (cc is)
 

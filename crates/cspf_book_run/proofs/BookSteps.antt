@@ -1,6 +1,5 @@
 -- The state of a run after a row of the base: a change, an end row or a request.
-use Rattle.std.proofs.Common.{◌≡◌, ◌==◌, ◌⊎◌, ℕ, ◌+◌, true, false, cond, List, [], ◌∷◌, ◌++◌, length, Option, inl, inr, refl, sym, ap, subst, ◌∙◌, eq-eqb, arith}
-use Rattle.std.proofs.KnownBytes.{Appends-nil}
+use Rattle.std.proofs.Common.{◌≡◌, ◌==◌, ◌⊎◌, ℕ, ◌+◌, ◌-◌, true, false, List, [], ◌∷◌, ◌++◌, length, inl, inr, refl, sym, ap, subst, ◌∙◌, arith}
 use Rattle.std.proofs.lemmas.Bool.{cases_Bool, eqb-true}
 use Rattle.std.specs.List.{flat_map}
 use Rattle.cspf_model.specs.Changes.{Fits, after_changes}
@@ -25,7 +24,6 @@ use Rattle.cspf_book.specs.OverLinks.{over}
 use Rattle.cspf_book.specs.declared.over.Over.{Over}
 use Rattle.cspf_book.specs.BookState.{BookState}
 use Rattle.cspf_book_run.specs.declared.book_row.BookRow.TheVariants as book_row
-use Rattle.cspf_book_run.specs.declared.keeper.Keeping.{Keeping}
 use Rattle.cspf_book_run.specs.BookLines.{over_line, lost_line, base_line}
 use Rattle.cspf_book_run.specs.BookScript.{BookRunState, AreBaseLines, IsBookStepAnswered, after_answer, after_base_batch, after_open_change, after_refused_base_batch, open_base_batch}
 use Rattle.cspf_book_run.specs.BookSinks.{BookSinkState, book_spec, book_state_with}
@@ -33,10 +31,10 @@ use Rattle.cspf_book_run.specs.BookStates.{KeepsBook, BookLeads}
 use Rattle.cspf_book_run.specs.Kept.{text_of_step}
 use Rattle.cspf_book_run.specs.KeptRuns.{IsEndUnkept, IsStepStopped}
 use Rattle.cspf_book_run.specs.KeptStates.{IsRowDone, IsRowFailed, IsRowLost}
-use Rattle.cspf_book_run.specs.Keeping.{IsTextWritten, IsTextCutOff}
+use Rattle.cspf_book_run.specs.Keeping.{KeepSpec, IsCutWith, IsKeptIfNew}
 
 -- The lines that the code makes of the stored changes are the lines of the base batch.
-pub base_lines_are : {K : Type 0} (sink : BookSinkState K) (number n version : ℕ) (kept all : List Change) (overs : List Over) (ids lines : List ℕ) → kept ≡ all → n ≡ number → version ≡ sink.book.version + 1
+pub base_lines_are : {S : Type 0} (sink : BookSinkState S) (number n version : ℕ) (kept all : List Change) (overs : List Over) (ids lines : List ℕ) → kept ≡ all → n ≡ number → version ≡ sink.book.version + 1 - sink.skipped
     → overs ≡ over sink.book.placements kept → AreLost sink.book.base (after_changes sink.book.base kept) sink.book.placements ids
     → lines ≡ flat_map over_line overs ++ flat_map lost_line ids ++ base_line n version → AreBaseLines (book_state_with sink all) number lines
 base_lines_are sink number n version kept all overs ids lines same numbered versioned are_over are_lost are_lines =
@@ -45,79 +43,61 @@ base_lines_are sink number n version kept all overs ids lines same numbered vers
 pub another_version : (old new : ℕ) → new ≡ old + 1 → (new == old) ≡ false
 another_version old new rises = elim (cases_Bool (new == old)) [ inl same ↦ absurd (omega (arith, eqb-true new old same, rises)) | inr other ↦ other ]
 
--- If the book is unchanged, a row has no text for the writer `keep`.
-pub no_text : (s t : BookState) (text : List ℕ) → t ≡ s → cond (t.version == s.version) [] text ≡ []
-no_text s t text same = rw (eq-eqb t.version s.version (ap (λ (b : BookState). b.version) same)) refl
-
--- If the book has the next version, a row has its whole text for the writer `keep`.
-pub whole_text : (old new : ℕ) (text : List ℕ) → new ≡ old + 1 → cond (new == old) [] text ≡ text
-whole_text old new text rises = rw (another_version old new rises) refl
-
 -- The state `r` of the code's rows agrees with the state `s` of the run.
-pub record IsOfRun {K : Type 0} (r : RowsState (BookSinkState K)) (s : BookRunState) : Type 0 where
+pub record IsOfRun {S : Type 0} (r : RowsState (BookSinkState S)) (s : BookRunState) : Type 0 where
   pub book : r.sink.book ≡ s.book
   pub batches : r.sink.batches ≡ s.batches
+  pub skipped : r.sink.skipped ≡ s.skipped
   pub changes : r.changes ≡ s.changes
   pub answers : r.answers ≡ s.answers
   pub refused : r.refused ≡ s.refused
 
 -- `Says` holds for a state `after` of the run, with which the state `t` of the code's rows agrees.
-abbrev Answered : {K : Type 0} → (BookRunState → Type 0) → RowsState (BookSinkState K) → Type 0
+abbrev Answered : {S : Type 0} → (BookRunState → Type 0) → RowsState (BookSinkState S) → Type 0
 Answered Says t = (after : BookRunState) × IsOfRun t after × Says after
 
--- the text that goes to the writer `keep` for a row of the base
-abbrev text_after : BookRunState → Step → BookRunState → List ℕ
-text_after s asked t = cond (t.book.version == s.book.version) [] (text_of_step s asked)
-
-module _ {K : Type 0} (contents : K → Option (List ℕ)) where
-  -- If there is no text, nothing is written.
-  pub nothing_written : (old new : Keeping K) (text : List ℕ) → text ≡ [] → new ≡ old → IsTextWritten contents old text new
-  nothing_written old new text none same =
-      subst (λ (k : Keeping K). IsTextWritten contents old text k) (sym same)
-      (subst (λ (x : List ℕ). IsTextWritten contents old x old) (sym none) (record { same = refl; written = Appends-nil (contents old.keep) }))
-
-  -- The row of the base would be accepted, but the write of its text fails, so it is refused.
-  record IsStepFailed (s : BookRunState) (asked : Step) (line : List ℕ) (t : BookRunState) (old new : Keeping K) : Type 0 where
+module _ {S : Type 0} (spec : KeepSpec S) where
+  -- The row of the base would be accepted, but its text isn't kept, so it is refused.
+  record IsStepFailed (s : BookRunState) (asked : Step) (line : List ℕ) (t : BookRunState) (old new : S) : Type 0 where
     written : ℕ
     lines : List ℕ
     next : BookRunState
-    going : old.stopped ≡ false
+    going : spec.stopped old ≡ false
     accepted : IsBookStepAnswered s asked lines next
-    cut_off : IsTextCutOff contents written old (text_after s asked next) new
+    cut_off : IsCutWith spec s.book next.book written old (text_of_step s asked) new
     refused : IsEndUnkept (refusal.Keep written) s asked line t
 
-  -- The row of the base is answered, and its text is written, or the write fails, or a write had
-  -- failed earlier.
-  abbrev IsStepDone : BookRunState → Step → List ℕ → BookRunState → Keeping K → Keeping K → Type 0
+  -- The row of the base is answered. If it makes a new version, its text is kept. Or its text isn't
+  -- kept, or it was stopped earlier.
+  abbrev IsStepDone : BookRunState → Step → List ℕ → BookRunState → S → S → Type 0
   IsStepDone s asked line t old new =
-      ((old.stopped ≡ false) × IsBookStepAnswered s asked line t × IsTextWritten contents old (text_after s asked t) new)
-      ⊎ (IsStepFailed s asked line t old new ⊎ ((old.stopped ≡ true) × IsStepStopped s asked line t × (new ≡ old)))
+      ((spec.stopped old ≡ false) × IsBookStepAnswered s asked line t × IsKeptIfNew spec s.book t.book old (text_of_step s asked) new)
+      ⊎ (IsStepFailed s asked line t old new ⊎ ((spec.stopped old ≡ true) × IsStepStopped s asked line t × (new ≡ old)))
 
-  as_row : (s t : BookRunState) (fields : List (List ℕ)) (row : Row) (line : List ℕ) (old new : Keeping K) → IsStepDone s (step_of row) line t old new
-      → IsRowDone contents s fields (book_row.Base row) line t old new
+  as_row : (s t : BookRunState) (fields : List (List ℕ)) (row : Row) (line : List ℕ) (old new : S) → IsStepDone s (step_of row) line t old new
+      → IsRowDone spec s fields (book_row.Base row) line t old new
   as_row s t fields row line old new (inl a) = inl a
   as_row s t fields row line old new (inr (inl f)) =
       inr (inl (record { written = f.written; lines = f.lines; next = f.next; going = f.going; accepted = f.accepted; cut_off = f.cut_off; refused = f.refused }))
   as_row s t fields row line old new (inr (inr a)) = inr (inr a)
 
-  -- A row that leaves the book unchanged is answered in the same way, whether or not a write had
-  -- failed.
-  either : (s t : BookRunState) (asked : Step) (line : List ℕ) (old new : Keeping K) → t.book ≡ s.book → new ≡ old → IsBookStepAnswered s asked line t → IsStepStopped s asked line t
+  -- A row that leaves the book unchanged is answered in the same way, whether or not it was stopped.
+  either : (s t : BookRunState) (asked : Step) (line : List ℕ) (old new : S) → t.book ≡ s.book → new ≡ old → IsBookStepAnswered s asked line t → IsStepStopped s asked line t
       → IsStepDone s asked line t old new
-  either s t asked line old new book same answered stopped = elim (cases_Bool old.stopped) [
+  either s t asked line old new book same answered stopped = elim (cases_Bool (spec.stopped old)) [
     | inl stops ↦ inr (inr (stops, stopped, same))
-    | inr going ↦ inl (going, answered, nothing_written old new (text_after s asked t) (no_text s.book t.book (text_of_step s asked) book) same)
+    | inr going ↦ inl (going, answered, inl (book, same))
   ]
 
-  module _ (unfit : RefusedIsUnfit) (r t : RowsState (BookSinkState K)) (s : BookRunState) (of : IsOfRun r s) (number count : ℕ) (line : List ℕ) where
-    abbrev old : Keeping K
+  module _ (unfit : RefusedIsUnfit) (r t : RowsState (BookSinkState S)) (s : BookRunState) (of : IsOfRun r s) (number count : ℕ) (line : List ℕ) where
+    abbrev old : S
     old = r.sink.keeping
 
     abbrev batch : NumberedChanges
     batch = record { number = number; changes = r.changes }
 
     -- The end row is right and its batch fits, so the batch can be accepted with these lines.
-    acceptable : (lines : List ℕ) → IsRightEnd old.stopped r.sink.book.version (r.sink.batches + 1) number count (length r.changes) → Fits r.sink.book.base batch
+    acceptable : (lines : List ℕ) → IsRightEnd (spec.stopped old) r.sink.book.version (r.sink.batches + 1) number count (length r.changes) → Fits r.sink.book.base batch
         → AreBaseLines (book_state_with r.sink r.changes) number lines → IsBookStepAnswered s (step.End number count) lines (after_base_batch s)
     acceptable lines right fits base = inl (
       record {
@@ -126,16 +106,11 @@ module _ {K : Type 0} (contents : K → Option (List ℕ)) where
         counted = right.counted ∙ ap length of.changes;
         fits = rw (of.book, of.changes) at fits;
       },
-      rw (of.book, of.changes) at base,
+      rw (of.book, of.changes, of.skipped) at base,
       refl,
     )
 
-    text : batch_text batch ≡ text_after s (step.End number count) (after_base_batch s)
-    text =
-        ap (λ (cs : List Change). batch_text (record { number = number; changes = cs })) of.changes
-        ∙ sym (whole_text s.book.version (s.book.version + 1) (batch_text (open_base_batch s number)) refl)
-
-    accepted : IsEndAccepted (book_spec contents) r number count line t → Answered (λ after. IsStepDone s (step.End number count) line after old t.sink.keeping) t
+    accepted : IsEndAccepted (book_spec spec) r number count line t → Answered (λ after. IsStepDone s (step.End number count) line after old t.sink.keeping) t
     accepted a =
         let right = a.taken.0 in
         let takes = a.taken.1 in (
@@ -143,31 +118,33 @@ module _ {K : Type 0} (contents : K → Option (List ℕ)) where
           record {
             book = rw (of.book, of.changes) at takes.2;
             batches = takes.3 ∙ ap (λ n. n + 1) of.batches;
-            changes = ap (λ (x : RowsState (BookSinkState K)). x.changes) a.after;
-            answers = ap (λ (x : RowsState (BookSinkState K)). x.answers) a.after ∙ of.answers;
-            refused = ap (λ (x : RowsState (BookSinkState K)). x.refused) a.after ∙ of.refused;
+            skipped = takes.4 ∙ of.skipped;
+            changes = ap (λ (x : RowsState (BookSinkState S)). x.changes) a.after;
+            answers = ap (λ (x : RowsState (BookSinkState S)). x.answers) a.after ∙ of.answers;
+            refused = ap (λ (x : RowsState (BookSinkState S)). x.refused) a.after ∙ of.refused;
           },
-          inl (right.going, acceptable line right takes.0 takes.1, subst (λ (x : List ℕ). IsTextWritten contents old x t.sink.keeping) text takes.4),
+          inl (right.going, acceptable line right takes.0 takes.1, inr (rw (of.book, of.changes) at takes.5)),
         )
 
     -- A refused batch leaves the book unchanged.
-    unchanged : (why : BatchRefusal) (sink : BookSinkState K) → IsBatchDropped (book_spec contents) r.sink number count r.changes why sink
-        → (sink.book ≡ r.sink.book) × (sink.batches ≡ r.sink.batches)
-    unchanged why sink (inl (wrong, same)) = (ap (λ (x : BookSinkState K). x.book) same, ap (λ (x : BookSinkState K). x.batches) same)
-    unchanged why sink (inr (right, (unkept, book, batches))) = (book, batches)
+    unchanged : (why : BatchRefusal) (sink : BookSinkState S) → IsBatchDropped (book_spec spec) r.sink number count r.changes why sink
+        → (sink.book ≡ r.sink.book) × (sink.batches ≡ r.sink.batches) × (sink.skipped ≡ r.sink.skipped)
+    unchanged why sink (inl (wrong, same)) =
+        (ap (λ (x : BookSinkState S). x.book) same, ap (λ (x : BookSinkState S). x.batches) same, ap (λ (x : BookSinkState S). x.skipped) same)
+    unchanged why sink (inr (right, (unkept, book, batches, skipped))) = (book, batches, skipped)
 
     -- The batch is refused for a reason of the book.
-    unaccepted : (why : BatchRefusal) (new : Keeping K) → old.stopped ≡ false → IsNotAccepted s.book.version (s.batches + 1) s.changes s.book.base number count why → new ≡ old
+    unaccepted : (why : BatchRefusal) (new : S) → spec.stopped old ≡ false → IsNotAccepted s.book.version (s.batches + 1) s.changes s.book.base number count why → new ≡ old
         → line ≡ refused_batch_line number why → IsStepDone s (step.End number count) line (after_refused_base_batch s) old new
     unaccepted why new going is same line_is = inl (
       going,
       inr (why, is.0, is.1, line_is, refl),
-      nothing_written old new (text_after s (step.End number count) (after_refused_base_batch s)) (no_text s.book s.book (text_of_step s (step.End number count)) refl) same,
+      inl (refl, same),
     )
 
-    -- The write of the batch's text fails.
-    failed : (written : ℕ) (new : Keeping K) (lines : List ℕ) → IsRightEnd old.stopped r.sink.book.version (r.sink.batches + 1) number count (length r.changes) → Fits r.sink.book.base batch
-        → AreBaseLines (book_state_with r.sink r.changes) number lines → IsTextCutOff contents written old (batch_text batch) new
+    -- The batch's text isn't kept.
+    failed : (written : ℕ) (new : S) (lines : List ℕ) → IsRightEnd (spec.stopped old) r.sink.book.version (r.sink.batches + 1) number count (length r.changes) → Fits r.sink.book.base batch
+        → AreBaseLines (book_state_with r.sink r.changes) number lines → IsCutWith spec r.sink.book (after_base_batch (book_state_with r.sink r.changes)).book written old (batch_text batch) new
         → line ≡ refused_batch_line number (refusal.Keep written) → IsStepFailed s (step.End number count) line (after_refused_base_batch s) old new
     failed written new lines right fits base cut line_is = record {
       written = written;
@@ -175,109 +152,114 @@ module _ {K : Type 0} (contents : K → Option (List ℕ)) where
       next = after_base_batch s;
       going = right.going;
       accepted = acceptable lines right fits base;
-      cut_off = subst (λ (x : List ℕ). IsTextCutOff contents written old x new) text cut;
+      cut_off = rw (of.book, of.changes) at cut;
       refused = (line_is, refl);
     }
 
-    dropped : (why : BatchRefusal) (sink : BookSinkState K) → IsBatchDropped (book_spec contents) r.sink number count r.changes why sink → line ≡ refused_batch_line number why
+    dropped : (why : BatchRefusal) (sink : BookSinkState S) → IsBatchDropped (book_spec spec) r.sink number count r.changes why sink → line ≡ refused_batch_line number why
         → IsStepDone s (step.End number count) line (after_refused_base_batch s) old sink.keeping
-    dropped refusal.Stopped sink (inl (stops, same)) is = inr (inr (stops, (is, refl), ap (λ (x : BookSinkState K). x.keeping) same))
+    dropped refusal.Stopped sink (inl (stops, same)) is = inr (inr (stops, (is, refl), ap (λ (x : BookSinkState S). x.keeping) same))
     dropped why sink (inl ((going, wrong), same)) is =
-        let both : IsStoppedOrWrong old.stopped r.sink.book.version (r.sink.batches + 1) number count (length r.changes) why = (going, wrong) in
+        let both : IsStoppedOrWrong (spec.stopped old) r.sink.book.version (r.sink.batches + 1) number count (length r.changes) why = (going, wrong) in
+        let by_changes = subst (λ (cs : List Change). IsStoppedOrWrong (spec.stopped old) r.sink.book.version (r.sink.batches + 1) number count (length cs) why) of.changes both in
+        let by_batches = subst (λ (n : ℕ). IsStoppedOrWrong (spec.stopped old) r.sink.book.version (n + 1) number count (length s.changes) why) of.batches by_changes in
         unaccepted why sink.keeping going
-        (wrong_end s.book.version (s.batches + 1) s.changes s.book.base number count old.stopped why going (rw (of.book, of.batches, of.changes) at both))
-        (ap (λ (x : BookSinkState K). x.keeping) same) is
-    dropped (refusal.Unfit why) sink (inr (right, ((refuses, same), book, batches))) is =
+        (wrong_end s.book.version (s.batches + 1) s.changes s.book.base number count (spec.stopped old) why going
+        (subst (λ (b : BookState). IsStoppedOrWrong (spec.stopped old) b.version (s.batches + 1) number count (length s.changes) why) of.book by_batches))
+        (ap (λ (x : BookSinkState S). x.keeping) same) is
+    dropped (refusal.Unfit why) sink (inr (right, ((refuses, same), book, batches, skipped))) is =
         unaccepted (refusal.Unfit why) sink.keeping right.going
-        (unfit_end s.book.version (s.batches + 1) s.changes s.book.base number count unfit old.stopped why (rw (of.book, of.batches, of.changes) at right) (rw (of.book, of.changes) at refuses))
+        (unfit_end s.book.version (s.batches + 1) s.changes s.book.base number count unfit (spec.stopped old) why (rw (of.book, of.batches, of.changes) at right) (rw (of.book, of.changes) at refuses))
         same is
-    dropped (refusal.Keep written) sink (inr (right, ((fits, lines, base, cut), book, batches))) is = inr (inl (failed written sink.keeping lines right fits base cut is))
-    dropped other sink (inr (right, (none, book, batches))) is = absurd none
+    dropped (refusal.Keep written) sink (inr (right, ((fits, lines, base, cut), book, batches, skipped))) is = inr (inl (failed written sink.keeping lines right fits base cut is))
+    dropped other sink (inr (right, (none, book, batches, skipped))) is = absurd none
 
-    -- If memory is refused for the line of a refused batch, nothing is written, or the write of the
-    -- batch's text fails.
-    lost : (why : BatchRefusal) (sink : BookSinkState K) → IsBatchDropped (book_spec contents) r.sink number count r.changes why sink → line ≡ refused_batch_line number why
+    -- If memory is refused for the line of a refused batch, nothing is kept, or the batch's text isn't
+    -- kept.
+    lost : (why : BatchRefusal) (sink : BookSinkState S) → IsBatchDropped (book_spec spec) r.sink number count r.changes why sink → line ≡ refused_batch_line number why
         → (sink.keeping ≡ old) ⊎ IsStepFailed s (step.End number count) line (after_refused_base_batch s) old sink.keeping
-    lost why sink (inl (wrong, same)) is = inl (ap (λ (x : BookSinkState K). x.keeping) same)
-    lost (refusal.Unfit why) sink (inr (right, ((refuses, same), book, batches))) is = inl same
-    lost (refusal.Keep written) sink (inr (right, ((fits, lines, base, cut), book, batches))) is = inr (failed written sink.keeping lines right fits base cut is)
-    lost other sink (inr (right, (none, book, batches))) is = absurd none
+    lost why sink (inl (wrong, same)) is = inl (ap (λ (x : BookSinkState S). x.keeping) same)
+    lost (refusal.Unfit why) sink (inr (right, ((refuses, same), book, batches, skipped))) is = inl same
+    lost (refusal.Keep written) sink (inr (right, ((fits, lines, base, cut), book, batches, skipped))) is = inr (failed written sink.keeping lines right fits base cut is)
+    lost other sink (inr (right, (none, book, batches, skipped))) is = absurd none
 
-    refused : IsEndRefused (book_spec contents) r number count line t → Answered (λ after. IsStepDone s (step.End number count) line after old t.sink.keeping) t
+    refused : IsEndRefused (book_spec spec) r number count line t → Answered (λ after. IsStepDone s (step.End number count) line after old t.sink.keeping) t
     refused a =
         let same = unchanged a.why t.sink a.dropped in (
           after_refused_base_batch s,
           record {
             book = same.0 ∙ of.book;
             batches = same.1 ∙ of.batches;
-            changes = ap (λ (x : RowsState (BookSinkState K)). x.changes) a.after;
-            answers = ap (λ (x : RowsState (BookSinkState K)). x.answers) a.after ∙ of.answers;
-            refused = ap (λ (x : RowsState (BookSinkState K)). x.refused) a.after ∙ ap (λ n. n + 1) of.refused;
+            skipped = same.2 ∙ of.skipped;
+            changes = ap (λ (x : RowsState (BookSinkState S)). x.changes) a.after;
+            answers = ap (λ (x : RowsState (BookSinkState S)). x.answers) a.after ∙ of.answers;
+            refused = ap (λ (x : RowsState (BookSinkState S)). x.refused) a.after ∙ ap (λ n. n + 1) of.refused;
           },
           dropped a.why t.sink a.dropped a.line_is,
         )
 
-  changed : (r : RowsState (BookSinkState K)) (s : BookRunState) (c : Change) → IsOfRun r s → IsOfRun (record r { changes = r.changes ++ c ∷ [] }) (after_open_change s c)
-  changed r s c of = record { book = of.book; batches = of.batches; changes = ap (λ cs. cs ++ c ∷ []) of.changes; answers = of.answers; refused = of.refused }
+  changed : (r : RowsState (BookSinkState S)) (s : BookRunState) (c : Change) → IsOfRun r s → IsOfRun (record r { changes = r.changes ++ c ∷ [] }) (after_open_change s c)
+  changed r s c of = record { book = of.book; batches = of.batches; skipped = of.skipped; changes = ap (λ cs. cs ++ c ∷ []) of.changes; answers = of.answers; refused = of.refused }
 
-  replied : (r : RowsState (BookSinkState K)) (s : BookRunState) → IsOfRun r s → IsOfRun (record r { answers = r.answers + 1 }) (after_answer s s.book)
-  replied r s of = record { book = of.book; batches = of.batches; changes = of.changes; answers = ap (λ n. n + 1) of.answers; refused = of.refused }
+  replied : (r : RowsState (BookSinkState S)) (s : BookRunState) → IsOfRun r s → IsOfRun (record r { answers = r.answers + 1 }) (after_answer s s.book)
+  replied r s of = record { book = of.book; batches = of.batches; skipped = of.skipped; changes = of.changes; answers = ap (λ n. n + 1) of.answers; refused = of.refused }
 
-  step_taken : RefusedIsUnfit → (r t : RowsState (BookSinkState K)) (s : BookRunState) (asked : Step) (line : List ℕ) → IsOfRun r s → IsStepTaken (book_spec contents) r asked line t
+  step_taken : RefusedIsUnfit → (r t : RowsState (BookSinkState S)) (s : BookRunState) (asked : Step) (line : List ℕ) → IsOfRun r s → IsStepTaken (book_spec spec) r asked line t
       → Answered (λ after. IsStepDone s asked line after r.sink.keeping t.sink.keeping) t
   step_taken unfit r t s (step.Change c) line of a =
       let after = after_open_change s c in
-      let same = ap (λ (x : RowsState (BookSinkState K)). x.sink.keeping) a.1 in
+      let same = ap (λ (x : RowsState (BookSinkState S)). x.sink.keeping) a.1 in
       (after, rw a.1 (changed r s c of), either s after (step.Change c) line r.sink.keeping t.sink.keeping refl same (a.0, refl) (a.0, refl))
   step_taken unfit r t s (step.End number count) line of (inl a) = accepted unfit r t s of number count line a
   step_taken unfit r t s (step.End number count) line of (inr a) = refused unfit r t s of number count line a
   step_taken unfit r t s (step.Ask q) line of a =
       let after = after_answer s s.book in
-      let same = ap (λ (x : RowsState (BookSinkState K)). x.sink.keeping) a.1 in
-      let answered : IsBookStepAnswered s (step.Ask q) line after = (a.0.0, rw of.book at a.0.1, rw of.book at a.0.2, refl) in
+      let same = ap (λ (x : RowsState (BookSinkState S)). x.sink.keeping) a.1 in
+      let answered : IsBookStepAnswered s (step.Ask q) line after = (a.0.0, rw of.book at a.0.1, rw (of.book, of.skipped) at a.0.2, refl) in
       (after, rw a.1 (replied r s of), either s after (step.Ask q) line r.sink.keeping t.sink.keeping refl same answered answered)
 
-  step_lost : RefusedIsUnfit → (r t : RowsState (BookSinkState K)) (s : BookRunState) (asked : Step) → IsOfRun r s → IsStepLost (book_spec contents) r asked t
+  step_lost : RefusedIsUnfit → (r t : RowsState (BookSinkState S)) (s : BookRunState) (asked : Step) → IsOfRun r s → IsStepLost (book_spec spec) r asked t
       → (t.sink.keeping ≡ r.sink.keeping) ⊎ ((line : List ℕ) × (after : BookRunState) × IsStepFailed s asked line after r.sink.keeping t.sink.keeping)
-  step_lost unfit r t s (step.End number count) of (inl same) = inl (ap (λ (x : RowsState (BookSinkState K)). x.sink.keeping) same)
+  step_lost unfit r t s (step.End number count) of (inl same) = inl (ap (λ (x : RowsState (BookSinkState S)). x.sink.keeping) same)
   step_lost unfit r t s (step.End number count) of (inr (line, a)) = elim (lost unfit r t s of number count line a.why t.sink a.dropped a.line_is) [
     | inl same ↦ inl same
     | inr fails ↦ inr (line, after_refused_base_batch s, fails)
   ]
-  step_lost unfit r t s other of same = inl (ap (λ (x : RowsState (BookSinkState K)). x.sink.keeping) same)
+  step_lost unfit r t s other of same = inl (ap (λ (x : RowsState (BookSinkState S)). x.sink.keeping) same)
 
   -- the state of the code's rows, if they store the state `s` of the run
-  abbrev stored : Rows (BookSinkState K) → BookRunState → RowsState (BookSinkState K)
+  abbrev stored : Rows (BookSinkState S) → BookRunState → RowsState (BookSinkState S)
   stored k s = record { sink = k.sink; changes = s.changes; answers = k.answers; refused = k.refused }
 
-  stored_is : (k : Rows (BookSinkState K)) (s : BookRunState) → KeepsBook k s → IsOfRun (stored k s) s
-  stored_is k s kept = record { book = kept.book; batches = kept.batches; changes = refl; answers = kept.answers; refused = kept.refused }
+  stored_is : (k : Rows (BookSinkState S)) (s : BookRunState) → KeepsBook k s → IsOfRun (stored k s) s
+  stored_is k s kept = record { book = kept.book; batches = kept.batches; skipped = kept.skipped; changes = refl; answers = kept.answers; refused = kept.refused }
 
   -- If the code's rows do what a row of the base asks for, as `IsStepTaken` of `cspf_stream` states,
   -- the row is answered as `IsRowDone` states for a run.
-  pub base_row : RefusedIsUnfit → (k k' : Rows (BookSinkState K)) (fields : List (List ℕ)) (row : Row) (line : List ℕ) → RowsLead k k' (λ r t. IsStepTaken (book_spec contents) r (step_of row) line t)
-      → BookLeads k k' (λ s t. IsRowDone contents s fields (book_row.Base row) line t k.sink.keeping k'.sink.keeping)
+  pub base_row : RefusedIsUnfit → (k k' : Rows (BookSinkState S)) (fields : List (List ℕ)) (row : Row) (line : List ℕ) → RowsLead k k' (λ r t. IsStepTaken (book_spec spec) r (step_of row) line t)
+      → BookLeads k k' (λ s t. IsRowDone spec s fields (book_row.Base row) line t k.sink.keeping k'.sink.keeping)
   base_row unfit k k' fields row line lead s kept =
       let led = lead (stored k s) (record { sink = refl; changes = kept.changes; answers = refl; refused = refl }) in
       let a = step_taken unfit (stored k s) led.0 s (step_of row) line (stored_is k s kept) led.2 in
-      let same = ap (λ (x : BookSinkState K). x.keeping) led.1.sink in (
+      let same = ap (λ (x : BookSinkState S). x.keeping) led.1.sink in (
         a.0,
         record {
-          book = ap (λ (x : BookSinkState K). x.book) led.1.sink ∙ a.1.book;
-          batches = ap (λ (x : BookSinkState K). x.batches) led.1.sink ∙ a.1.batches;
+          book = ap (λ (x : BookSinkState S). x.book) led.1.sink ∙ a.1.book;
+          batches = ap (λ (x : BookSinkState S). x.batches) led.1.sink ∙ a.1.batches;
+          skipped = ap (λ (x : BookSinkState S). x.skipped) led.1.sink ∙ a.1.skipped;
           changes = subst (λ cs. AreOpen k'.changes cs) a.1.changes led.1.changes;
           answers = led.1.answers ∙ a.1.answers;
           refused = led.1.refused ∙ a.1.refused;
         },
-        subst (λ (x : Keeping K). IsRowDone contents s fields (book_row.Base row) line a.0 k.sink.keeping x) (sym same)
+        subst (λ (x : S). IsRowDone spec s fields (book_row.Base row) line a.0 k.sink.keeping x) (sym same)
             (as_row s a.0 fields row line k.sink.keeping led.0.sink.keeping a.2),
       )
 
-  pub base_lost : RefusedIsUnfit → (k k' : Rows (BookSinkState K)) (fields : List (List ℕ)) (row : Row) → RowsLead k k' (λ r t. IsStepLost (book_spec contents) r (step_of row) t)
-      → IsRowLost contents fields (book_row.Base row) k k'
+  pub base_lost : RefusedIsUnfit → (k k' : Rows (BookSinkState S)) (fields : List (List ℕ)) (row : Row) → RowsLead k k' (λ r t. IsStepLost (book_spec spec) r (step_of row) t)
+      → IsRowLost spec fields (book_row.Base row) k k'
   base_lost unfit k k' fields row lead s kept =
       let led = lead (stored k s) (record { sink = refl; changes = kept.changes; answers = refl; refused = refl }) in
-      let same = ap (λ (x : BookSinkState K). x.keeping) led.1.sink in
+      let same = ap (λ (x : BookSinkState S). x.keeping) led.1.sink in
       elim (step_lost unfit (stored k s) led.0 s (step_of row) (stored_is k s kept) led.2) [
         | inl none ↦ inl (same ∙ none)
         | inr fails ↦
@@ -285,7 +267,7 @@ module _ {K : Type 0} (contents : K → Option (List ℕ)) where
             inr (
               fails.0,
               fails.1,
-              subst (λ (x : Keeping K). IsRowFailed contents s fields (book_row.Base row) fails.0 fails.1 k.sink.keeping x) (sym same)
+              subst (λ (x : S). IsRowFailed spec s fields (book_row.Base row) fails.0 fails.1 k.sink.keeping x) (sym same)
                   (record { written = f.written; lines = f.lines; next = f.next; going = f.going; accepted = f.accepted; cut_off = f.cut_off; refused = f.refused }),
             )
       ]

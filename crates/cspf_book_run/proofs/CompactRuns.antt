@@ -1,4 +1,4 @@
--- What a run makes of which a shortest stream is written.
+-- What a run makes of which a compact stream is written.
 use Rattle.std.proofs.Common.{◌≡◌, ℕ, suc, ◌-◌, ◌<◌, Bool, false, List, [], ◌∷◌, ◌++◌, length, Option, Some, None, IfSome, IfOk, Result, Ok, Err, inl, inr, refl, sym, ap, subst, ◌∙◌, arith}
 use Rattle.std.specs.List.{AllByRecursion}
 use Rattle.cspf_model.specs.declared.request.Request.{Request}
@@ -24,7 +24,8 @@ use Rattle.cspf_book_run.specs.declared.book_row_error.BookRowError.{BookRowErro
 use Rattle.cspf_book_run.specs.declared.compact_run.CompactRows.{CompactRows}
 use Rattle.cspf_book_run.specs.declared.compact_stop.CompactStop.{CompactStop}
 use Rattle.cspf_book_run.specs.declared.compact_stop.CompactStop.TheVariants as stop
-use Rattle.cspf_book_run.specs.declared.keeper.Keeping.{Keeping}
+use Rattle.cspf_book_run.specs.declared.keeper.KeepsNothing.{KeepsNothing}
+use Rattle.cspf_book_run.specs.Keeping.{nothing_spec}
 use Rattle.cspf_book_run.specs.BookRows.{book_row_of}
 use Rattle.cspf_book_run.specs.BookScript.{BookRunState, book_start, book_answers, IsBookRowAnswered, IsBookStepAnswered, after_held}
 use Rattle.cspf_book_run.specs.BookStates.{KeepsBook, IsReadable}
@@ -42,17 +43,17 @@ Rows = List (List (List ℕ))
 
 -- ---- one row
 
--- If no write has failed before a row or at it, the book answers the row.
-unstopped_as : {K : Type 0} (contents : K → Option (List ℕ)) (place : ℕ) (s : BookRunState) (fields : List (List ℕ)) (row : Result BookRow BookRowError) (line : List ℕ) (t : BookRunState) (old new : Keeping K)
-    → old.stopped ≡ false → new.stopped ≡ false → IsAnsweredDone contents place s fields row line t old new → IsBookRowAnswered place s row line t
-unstopped_as contents place s fields (Err e) line t old new going on (a, same) = a
-unstopped_as contents place s fields (Ok row) line t old new going on (inl (_, taken, written)) = taken
-unstopped_as contents place s fields (Ok row) line t old new going on (inr (inl f)) = let off = f.cut_off.stops in absurd (cc)
-unstopped_as contents place s fields (Ok row) line t old new going on (inr (inr (stops, a, same))) = absurd (cc)
+-- Nothing that is kept fails, so the book answers each row.
+unstopped_as : (place : ℕ) (s : BookRunState) (fields : List (List ℕ)) (row : Result BookRow BookRowError) (line : List ℕ) (t : BookRunState) (old new : KeepsNothing)
+    → IsAnsweredDone nothing_spec place s fields row line t old new → IsBookRowAnswered place s row line t
+unstopped_as place s fields (Err e) line t old new (a, same) = a
+unstopped_as place s fields (Ok row) line t old new (inl (_, taken, kept)) = taken
+unstopped_as place s fields (Ok row) line t old new (inr (inl f)) = absurd f.cut_off.2
+unstopped_as place s fields (Ok row) line t old new (inr (inr (stops, a, same))) = absurd (cc stops)
 
-pub unstopped : {K : Type 0} (contents : K → Option (List ℕ)) (place : ℕ) (s : BookRunState) (fields : List (List ℕ)) (line : List ℕ) (t : BookRunState) (old new : Keeping K)
-    → old.stopped ≡ false → new.stopped ≡ false → IsAnsweredDone contents place s fields (book_row_of fields) line t old new → book_answers place s fields line t
-unstopped contents place s fields line t old new going on a = unstopped_as contents place s fields (book_row_of fields) line t old new going on a
+pub unstopped : (place : ℕ) (s : BookRunState) (fields : List (List ℕ)) (line : List ℕ) (t : BookRunState) (old new : KeepsNothing)
+    → IsAnsweredDone nothing_spec place s fields (book_row_of fields) line t old new → book_answers place s fields line t
+unstopped place s fields line t old new a = unstopped_as place s fields (book_row_of fields) line t old new a
 
 -- ---- the setup priorities of the placements
 
@@ -145,7 +146,7 @@ module _ (k : CompactRows) (fresh : KeepsBook k.rows.rows book_start) where
   writable [] range low ends = tt
   writable (p ∷ ps) range low ends = (record { range = range.0; setup = low.0; ends = ends.0 }, writable ps range.1 low.1 ends.1)
 
-  -- All rows are taken, no changes are open, and the text is the shortest stream of the book.
+  -- All rows are taken, no changes are open, and the text is the compact stream of the book.
   pub compaction_made : (all : Option Rows) (b : CompactRows) (text : List ℕ) (old new : Option (List ℕ)) → AreAllAnswered IsRowTaken all k b old new → IsBookCompact b text
       → IfSome all (λ rows. IsCompaction rows text)
   compaction_made None b text old new a c = tt
@@ -167,7 +168,7 @@ module _ (k : CompactRows) (fresh : KeepsBook k.rows.rows book_start) where
       none_open [] is = refl
       none_open (x ∷ xs) is = absurd (omega (arith, is))
 
-  -- All rows are taken, and no shortest stream is made.
+  -- All rows are taken, and no compact stream is made.
   pub book_stops : (all : Option Rows) (b : CompactRows) (why : CompactStop) (old new : Option (List ℕ)) → AreAllAnswered IsRowTaken all k b old new → IsOpenStop b why
       → IfSome all (λ rows. IsCompactStop why rows)
   book_stops None b why old new a c = tt

@@ -1,5 +1,5 @@
--- A run over the shortest stream of a book makes its base and its placements.
-use Rattle.std.proofs.Common.{◌≡◌, ℕ, suc, ◌+◌, ◌<◌, ◌≤◌, ◌^◌, List, [], ◌∷◌, ◌++◌, map, length, Result, Ok, inl, refl, sym, ap, subst, ◌∙◌, arith}
+-- A run over the compact stream of a book makes its base and its placements.
+use Rattle.std.proofs.Common.{◌≡◌, ℕ, suc, ◌+◌, ◌-◌, ◌<◌, ◌≤◌, ◌^◌, List, [], ◌∷◌, ◌++◌, map, length, Result, Ok, inl, refl, sym, ap, subst, ◌∙◌, arith}
 use Rattle.std.proofs.lemmas.Grind.{flat_map-append}
 use Rattle.std.specs.List.{flat_map, AllByRecursion}
 use Rattle.csv.specs.Writing.{default_writer, row_text}
@@ -50,6 +50,7 @@ made base batches version = record {
   changes = [];
   answers = 0;
   refused = 0;
+  skipped = 0;
 }
 
 module _ (laws : AreRowsReadBack) where
@@ -58,7 +59,7 @@ module _ (laws : AreRowsReadBack) where
       → (line : List ℕ) × ((p : ℕ) → AreAnswered book_answers p (made base n n) (batch_records b) line (made (after_changes base b.changes) (n + 1) (n + 1)))
   batch_made b base n number few fits range =
       let from : BookRunState = record (made base n n) { changes = b.changes } in
-      let line : List ℕ = flat_map over_line (over [] b.changes) ++ [] ++ base_line b.number (n + 1) in
+      let line : List ℕ = flat_map over_line (over [] b.changes) ++ [] ++ base_line b.number (n + 1 - 0) in
       let short : length b.changes < 2 ^ 32 = omega (arith, fits.short) in
       let accepted : IsBaseAccepted from b.number (length b.changes) = record { room = omega (arith, few); next = number; counted = refl; fits = fits } in
       let lines : AreBaseLines from b.number line = ([], none_lost base (after_changes base b.changes), refl) in (

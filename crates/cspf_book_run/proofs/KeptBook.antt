@@ -278,7 +278,7 @@ module _ (laws : AreRowsReadBack) where
   -- Take the end row of an accepted batch. A run over the texts of accepted rows answers it with
   -- the same lines as the run that wrote these texts.
   end_taken : (p : ℕ) (s : BookRunState) (number count : ℕ) (line : List ℕ) → number < 2 ^ 32 → length s.changes < 2 ^ 32 → IsBaseAccepted s number count → AreBaseLines s number line
-      → (answers : ℕ) → let from : BookRunState = record { book = s.book; batches = s.batches; restored = s.restored; changes = s.changes; answers = answers; refused = 0 } in
+      → (answers : ℕ) → let from : BookRunState = record { book = s.book; batches = s.batches; restored = s.restored; changes = s.changes; answers = answers; refused = 0; skipped = s.skipped } in
       book_answers p from (end_fields number (length s.changes)) line (after_base_batch from)
   unfolding book_row_of field_at
   end_taken p s number count line small few accepted lines answers =
@@ -296,7 +296,7 @@ module _ (laws : AreRowsReadBack) where
 -- of the state `s` of the run that wrote these texts, and as many base batches and restored
 -- placements.
 abbrev bare : BookRunState → ℕ → BookRunState
-bare s answers = record { book = s.book; batches = s.batches; restored = s.restored; changes = []; answers = answers; refused = 0 }
+bare s answers = record { book = s.book; batches = s.batches; restored = s.restored; changes = []; answers = answers; refused = 0; skipped = s.skipped }
 
 -- Let n rows lead from the state `s` to the state `t`, and let `text` have the texts of their
 -- accepted rows. Then `text` is the text of some records, and a run over these records leads from
@@ -310,17 +310,19 @@ record Remakes (n : ℕ) (s t : BookRunState) (text : List ℕ) : Type 0 where
   few : length records + length t.changes ≤ length s.changes + n
   runs : (a : ℕ) → (b : ℕ) × (lines : List ℕ) × ((p : ℕ) → AreAnswered book_answers p (bare s a) records lines (bare t b))
 
--- The book and both counts are unchanged.
+-- The book, both counts and the skipped versions are unchanged.
 abbrev pub SameBook : BookRunState → BookRunState → Type 0
-SameBook s t = (t.book ≡ s.book) × (t.batches ≡ s.batches) × (t.restored ≡ s.restored)
+SameBook s t = (t.book ≡ s.book) × (t.batches ≡ s.batches) × (t.restored ≡ s.restored) × (t.skipped ≡ s.skipped)
 
 -- the state of a run over the texts of accepted rows that has this book and these counts
-abbrev bare_of : BookState → ℕ → ℕ → ℕ → BookRunState
-bare_of book batches restored answers = record { book = book; batches = batches; restored = restored; changes = []; answers = answers; refused = 0 }
+abbrev bare_of : BookState → ℕ → ℕ → ℕ → ℕ → BookRunState
+bare_of book batches restored skipped answers =
+    record { book = book; batches = batches; restored = restored; changes = []; answers = answers; refused = 0; skipped = skipped }
 
 bare_same : (s t : BookRunState) (a : ℕ) → SameBook s t → bare t a ≡ bare s a
-bare_same s t a (book, batches, restored) =
-    ap (λ (b : BookState). bare_of b t.batches t.restored a) book ∙ ap (λ (n : ℕ). bare_of s.book n t.restored a) batches ∙ ap (λ (n : ℕ). bare_of s.book s.batches n a) restored
+bare_same s t a (book, batches, restored, skipped) =
+    ap (λ (b : BookState). bare_of b t.batches t.restored t.skipped a) book ∙ ap (λ (n : ℕ). bare_of s.book n t.restored t.skipped a) batches
+    ∙ ap (λ (n : ℕ). bare_of s.book s.batches n t.skipped a) restored ∙ ap (λ (n : ℕ). bare_of s.book s.batches s.restored n a) skipped
 
 nothing_kept : (s t : BookRunState) (text : List ℕ) → SameBook s t → length t.changes ≤ length s.changes + 1
     → Remakes 1 s t (cond (t.book.version == s.book.version) [] text)
@@ -360,7 +362,7 @@ same_changes s t same range = subst (AllByRecursion IsChangeInRange) (sym same) 
 refused_remakes : (s t : BookRunState) (text : List ℕ) → AreOpenInRange s → t ≡ after_refusal s → Remakes 1 s t (cond (t.book.version == s.book.version) [] text) × AreOpenInRange t
 refused_remakes s t text range after =
     let opens = ap (λ (x : BookRunState). x.changes) after in (
-      nothing_kept s t text (ap (λ (x : BookRunState). x.book) after, ap (λ (x : BookRunState). x.batches) after, ap (λ (x : BookRunState). x.restored) after) (rw opens (omega arith)),
+      nothing_kept s t text (ap (λ (x : BookRunState). x.book) after, ap (λ (x : BookRunState). x.batches) after, ap (λ (x : BookRunState). x.restored) after, ap (λ (x : BookRunState). x.skipped) after) (rw opens (omega arith)),
       same_changes s t opens range,
     )
 
@@ -369,7 +371,7 @@ looked_remakes : (s t : BookRunState) (text : List ℕ) → AreOpenInRange s →
 looked_remakes s t text range look =
     let opens = look_same (λ (x : BookRunState). x.changes) s t refl look in (
       nothing_kept s t text
-          (look_same (λ (x : BookRunState). x.book) s t refl look, look_same (λ (x : BookRunState). x.batches) s t refl look, look_same (λ (x : BookRunState). x.restored) s t refl look)
+          (look_same (λ (x : BookRunState). x.book) s t refl look, look_same (λ (x : BookRunState). x.batches) s t refl look, look_same (λ (x : BookRunState). x.restored) s t refl look, look_same (λ (x : BookRunState). x.skipped) s t refl look)
           (rw opens (omega arith)),
       same_changes s t opens range,
     )
@@ -391,7 +393,7 @@ module _ (read : AreRowsRead) (laws : AreRowsReadBack) where
           a,
           line,
           λ p.
-              let from : BookRunState = record { book = s.book; batches = s.batches; restored = s.restored; changes = s.changes; answers = a; refused = 0 } in
+              let from : BookRunState = record { book = s.book; batches = s.batches; restored = s.restored; changes = s.changes; answers = a; refused = 0; skipped = s.skipped } in
               let ended : (q : ℕ) → AreAnswered book_answers q from (end_fields number (length s.changes) ∷ []) line (after_base_batch from) =
               λ q. one_answered q from (after_base_batch from) (end_fields number (length s.changes)) line (end_taken laws q s number count line small short accepted lines a) in
               subst (λ (x : BookRunState). AreAnswered book_answers p (bare s a) (batch_records (open_base_batch s number)) line (bare x a)) (sym after)
@@ -404,12 +406,12 @@ module _ (read : AreRowsRead) (laws : AreRowsReadBack) where
       → Remakes 1 s t (cond (t.book.version == s.book.version) [] (text_of_step s r)) × AreOpenInRange t
   step_remakes s t (step.Change c) line range here a =
       let opens = ap (λ (x : BookRunState). x.changes) a.1 in (
-        nothing_kept s t [] (ap (λ (x : BookRunState). x.book) a.1, ap (λ (x : BookRunState). x.batches) a.1, ap (λ (x : BookRunState). x.restored) a.1) (rw opens (simp length-append (omega arith))),
+        nothing_kept s t [] (ap (λ (x : BookRunState). x.book) a.1, ap (λ (x : BookRunState). x.batches) a.1, ap (λ (x : BookRunState). x.restored) a.1, ap (λ (x : BookRunState). x.skipped) a.1) (rw opens (simp length-append (omega arith))),
         subst (AllByRecursion IsChangeInRange) (sym opens) (one_more_in_range s.changes c range here),
       )
   step_remakes s t (step.Ask q) line range here a =
       let opens = ap (λ (x : BookRunState). x.changes) a.3 in (
-        nothing_kept s t [] (ap (λ (x : BookRunState). x.book) a.3, ap (λ (x : BookRunState). x.batches) a.3, ap (λ (x : BookRunState). x.restored) a.3) (rw opens (omega arith)),
+        nothing_kept s t [] (ap (λ (x : BookRunState). x.book) a.3, ap (λ (x : BookRunState). x.batches) a.3, ap (λ (x : BookRunState). x.restored) a.3, ap (λ (x : BookRunState). x.skipped) a.3) (rw opens (omega arith)),
         same_changes s t opens range,
       )
   step_remakes s t (step.End number count) line range here (inl (accepted, lines, after)) = (
@@ -418,7 +420,7 @@ module _ (read : AreRowsRead) (laws : AreRowsReadBack) where
   )
   step_remakes s t (step.End number count) line range here (inr (why, kept, is, line_is, after)) =
       let opens = ap (λ (x : BookRunState). x.changes) after in (
-        nothing_kept s t (text_of_step s (step.End number count)) (ap (λ (x : BookRunState). x.book) after, ap (λ (x : BookRunState). x.batches) after, ap (λ (x : BookRunState). x.restored) after) (rw opens (omega arith)),
+        nothing_kept s t (text_of_step s (step.End number count)) (ap (λ (x : BookRunState). x.book) after, ap (λ (x : BookRunState). x.batches) after, ap (λ (x : BookRunState). x.restored) after, ap (λ (x : BookRunState). x.skipped) after) (rw opens (omega arith)),
         subst (AllByRecursion IsChangeInRange) (sym opens) tt,
       )
 
@@ -431,10 +433,10 @@ module _ (read : AreRowsRead) (laws : AreRowsReadBack) where
       subst (λ (r : Result BookRow BookRowError). IsBookRowAnswered p (bare s a) r line (bare t (a + 1))) (sym is)
       (inl (
         record { room = x.room; few = x.few; answer = x.answer; best = x.best; placed = x.placed; reply = x.reply },
-        ap (λ (y : BookRunState). bare_of t.book y.batches y.restored (a + 1)) after,
+        ap (λ (y : BookRunState). bare_of t.book y.batches y.restored y.skipped (a + 1)) after,
       )))
   placed_remakes s t fields q hold line x other placed after is =
-      nothing_kept s t (row_text default_writer fields) (placed, ap (λ (y : BookRunState). y.batches) after, ap (λ (y : BookRunState). y.restored) after) (rw (ap (λ (y : BookRunState). y.changes) after) (omega arith))
+      nothing_kept s t (row_text default_writer fields) (placed, ap (λ (y : BookRunState). y.batches) after, ap (λ (y : BookRunState). y.restored) after, ap (λ (y : BookRunState). y.skipped) after) (rw (ap (λ (y : BookRunState). y.changes) after) (omega arith))
 
   row_remakes : (p : ℕ) (s t : BookRunState) (fields : List (List ℕ)) (r : Result BookRow BookRowError) (line : List ℕ) → AreOpenInRange s → book_row_of fields ≡ r → IsBookRowAnswered p s r line t
       → Remakes 1 s t (cond (t.book.version == s.book.version) [] (text_of_row s fields r)) × AreOpenInRange t
@@ -467,7 +469,7 @@ module _ (read : AreRowsRead) (laws : AreRowsReadBack) where
       refused_remakes s t (row_text default_writer fields) range after
   row_remakes p s t fields (Ok (book_row.Offer q hold)) line range is (inl (x, after)) =
       let opens = ap (λ (y : BookRunState). y.changes) after in (
-        nothing_kept s t (row_text default_writer fields) (ap (λ (y : BookRunState). y.book) after, ap (λ (y : BookRunState). y.batches) after, ap (λ (y : BookRunState). y.restored) after) (rw opens (omega arith)),
+        nothing_kept s t (row_text default_writer fields) (ap (λ (y : BookRunState). y.book) after, ap (λ (y : BookRunState). y.batches) after, ap (λ (y : BookRunState). y.restored) after, ap (λ (y : BookRunState). y.skipped) after) (rw opens (omega arith)),
         same_changes s t opens range,
       )
   row_remakes p s t fields (Ok (book_row.Offer q hold)) line range is (inr (why, refused, line_is, after)) =

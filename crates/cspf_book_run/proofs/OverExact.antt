@@ -20,6 +20,7 @@ use Rattle.cspf_book.specs.Placements.{counted}
 use Rattle.cspf_book.specs.OverLinks.{priorities, is_over, over_at, over_on, over_by, over}
 use Rattle.cspf_book.specs.Laws.{AbsorbingKeepsCovered}
 use Rattle.cspf_book_run.specs.BookLines.{over_line, lost_line, base_line}
+use Rattle.cspf_book_run.specs.BookScript.{name_of}
 use Rattle.cspf_book_run.specs.BookScriptLaws.{IsSaidOver, IsPutShort, BaseLinesAreExact}
 use Rattle.cspf_book_run.proofs.BookCovered.{said_among, said_first}
 use Rattle.cspf_book_run.proofs.LostOnce.{cases_in}
@@ -101,7 +102,7 @@ base_lines_exact absorbing one s number lines range (ids, lost, is) l priority f
   where
     there : IsSaidOver lines l priority → IsPutShort s l priority
     there said =
-        let named = named_among (over s.book.placements s.changes) ids number (s.book.version + 1) (over_at l priority) said.0 said.1 (sym is ∙ said.2) in
+        let named = named_among (over s.book.placements s.changes) ids number (name_of s (s.book.version + 1)) (over_at l priority) said.0 said.1 (sym is ∙ said.2) in
         let put = put_short s.book.placements s.changes named.0 named.1 in
         let m : Link = put.0 in
         let p : ℕ = put.1.1 in
@@ -120,5 +121,5 @@ base_lines_exact absorbing one s number lines range (ids, lost, is) l priority f
         let same : over_at m priority ≡ over_at l priority = ap (λ (k : Key). record { from = k.0; local = k.1; priority = priority }) key in
         let said = said_among (over s.book.placements s.changes) (over_at l priority) (subst (Contains (over s.book.placements s.changes)) same entry) in
         let second : List ℕ = flat_map lost_line ids in
-        let third : List ℕ = base_line number (s.book.version + 1) in
+        let third : List ℕ = base_line number (name_of s (s.book.version + 1)) in
         said_first l priority lines (flat_map over_line (over s.book.placements s.changes)) (second ++ third) (is ∙ append_assoc (flat_map over_line (over s.book.placements s.changes)) second third) said

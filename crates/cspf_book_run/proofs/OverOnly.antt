@@ -39,7 +39,7 @@ use Rattle.cspf_book_run.proofs.Looks.{shown_looks, left_looks, look_same}
 use Rattle.cspf_book_run.specs.BookLines.{over_line, IsPlaceReply, place_words, release_words}
 use Rattle.cspf_book_run.specs.BookRows.{book_row_of}
 use Rattle.cspf_book_run.specs.BookRowWords.{book_row_words}
-use Rattle.cspf_book_run.specs.BookScript.{BookRunState, book_answers, changers, IsShown, IsLeftShown, IsBookStepAnswered, IsBookRowAnswered}
+use Rattle.cspf_book_run.specs.BookScript.{BookRunState, name_of, book_answers, changers, IsShown, IsLeftShown, IsBookStepAnswered, IsBookRowAnswered}
 use Rattle.cspf_book_run.specs.BookScriptLaws.{IsSaidOver, OnlyChangersSayOver}
 use Rattle.cspf_book_run.specs.declared.book_row.BookRow.{BookRow}
 use Rattle.cspf_book_run.specs.declared.book_row.BookRow.TheVariants as book_row
@@ -233,11 +233,11 @@ skips_left from local version figures =
     word_after (left_front from local version ++ codes " base=" ++ figures_text figures.base ++ codes " counted=" ++ figures_text figures.counted ++ codes " left=" ++ figures_text figures.left) (codes "\n") left refl
 
 pub skips_look : (s t : BookRunState) (id : ℕ) (found : Option Placement) (line : List ℕ) → IsShown s id found line t → Skips line
-skips_look s t id (Some p) line a = subst Skips (sym a.0) (skips_shown s.book.version p)
+skips_look s t id (Some p) line a = subst Skips (sym a.0) (skips_shown (name_of s s.book.version) p)
 skips_look s t id None line a = subst Skips (sym a.0) (word_after (codes "show " ++ decimal id) (codes " refused: absent\n") (named (codes "show ") id refl) refl)
 
 pub skips_room : (s t : BookRunState) (k : Key) (found : Option LinkFigures) (line : List ℕ) → IsLeftShown s k found line t → Skips line
-skips_room s t k (Some figures) line a = subst Skips (sym a.0) (skips_left k.0 k.1 s.book.version figures)
+skips_room s t k (Some figures) line a = subst Skips (sym a.0) (skips_left k.0 k.1 (name_of s s.book.version) figures)
 skips_room s t k None line a = subst Skips (sym a.0) (word_after (codes "left " ++ address_text k.0 ++ codes "," ++ address_text k.1) (codes " refused: absent\n") (skips_link k.0 k.1) refl)
 
 -- ---- rows
@@ -252,7 +252,7 @@ quiet s t lines same skips = (omega (arith, same), λ _. skips)
 pub step_says : (s t : BookRunState) (row : Step) (line : List ℕ) → IsBookStepAnswered s row line t → SaysNone s t line
 step_says s t (step.Change c) line a = quiet s t line (ap changers a.1) (subst Skips (sym a.0) skips_none)
 step_says s t (step.Ask q) line (answer, best, reply, after) =
-    quiet s t line (ap changers after) (skips_reply q.id s.book.version answer line reply)
+    quiet s t line (ap changers after) (skips_reply q.id (name_of s s.book.version) answer line reply)
 step_says s t (step.End number count) line (inl (accepted, lines, after)) =
     let more : changers t ≡ changers s + 1 = ap changers after ∙ omega arith in
     (omega (arith, more), λ same. absurd (omega (arith, more, same)))
@@ -266,14 +266,14 @@ row_says place s t (Err e) line a =
     (subst Skips (sym a.0) (skips_refused (codes "row ") (book_row_words e) place refl (skips_book_row e)))
 row_says place s t (Ok (book_row.Base row)) line a = step_says s t (step_of row) line a
 row_says place s t (Ok (book_row.Place q hold)) line (inl (x, after)) =
-    quiet s t line (ap changers after) (skips_placed q.id t.book.version x.answer line x.reply)
+    quiet s t line (ap changers after) (skips_placed q.id (name_of s t.book.version) x.answer line x.reply)
 row_says place s t (Ok (book_row.Place q hold)) line (inr (why, is, line_is, after)) =
     quiet s t line (ap changers after)
     (subst Skips (sym line_is) (skips_refused (codes "place ") (place_words why) q.id refl (skips_unplaced why)))
 row_says place s t (Ok (book_row.Release id)) line (inl (room, has, line_is, after)) =
     quiet s t line (ap changers after)
     (subst Skips (sym line_is)
-    (word_after (codes "released " ++ decimal id ++ codes " v" ++ decimal (s.book.version + 1)) (codes "\n") (versioned (codes "released ") id (s.book.version + 1) refl) refl))
+    (word_after (codes "released " ++ decimal id ++ codes " v" ++ decimal (name_of s (s.book.version + 1))) (codes "\n") (versioned (codes "released ") id (name_of s (s.book.version + 1)) refl) refl))
 row_says place s t (Ok (book_row.Release id)) line (inr (why, is, line_is, after)) =
     quiet s t line (ap changers after)
     (subst Skips (sym line_is) (skips_refused (codes "release ") (release_words why) id refl (skips_unreleased why)))
@@ -284,7 +284,7 @@ row_says place s t (Ok (book_row.Held p)) line (inr (why, is, line_is, after)) =
     quiet s t line (ap changers after)
     (subst Skips (sym line_is) (skips_refused (codes "held ") (held_words why) (id_of p) refl (skips_unheld why)))
 row_says place s t (Ok (book_row.Offer q hold)) line (inl (x, after)) =
-    quiet s t line (ap changers after) (skips_offered q.id s.book.version x.answer line x.reply)
+    quiet s t line (ap changers after) (skips_offered q.id (name_of s s.book.version) x.answer line x.reply)
 row_says place s t (Ok (book_row.Offer q hold)) line (inr (why, is, line_is, after)) =
     quiet s t line (ap changers after)
     (subst Skips (sym line_is) (skips_refused (codes "offer ") (place_words why) q.id refl (skips_unplaced why)))

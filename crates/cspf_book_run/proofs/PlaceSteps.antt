@@ -1,5 +1,5 @@
 -- The state of a run after a `place` or `release` row.
-use Rattle.std.proofs.Common.{◌≡◌, ◌==◌, ◌⊎◌, ℕ, ◌+◌, ◌<◌, false, cond, List, [], Option, Some, None, Result, Ok, Err, OnErr, inl, inr, refl, sym, ap, subst, ◌∙◌}
+use Rattle.std.proofs.Common.{◌≡◌, ◌⊎◌, ℕ, ◌+◌, ◌-◌, ◌<◌, false, List, Some, None, Result, Ok, Err, OnErr, inl, inr, refl, sym, ap, subst, ◌∙◌}
 use Rattle.csv.specs.Writing.{default_writer, row_text}
 use Rattle.cspf_model.specs.Best.{Answer, route, IsBestAnswer}
 use Rattle.cspf_model.specs.declared.request.Request.{Request}
@@ -13,7 +13,6 @@ use Rattle.cspf_book.specs.declared.error.PlaceError.{PlaceError}
 use Rattle.cspf_book.specs.declared.error.PlaceError.TheVariants.{Memory, Full, TooManyLinks, Twice, TooLong}
 use Rattle.cspf_book_run.specs.declared.book_row.BookRow.TheVariants as book_row
 use Rattle.cspf_book_run.specs.declared.keeper.Keeper.{Keeper}
-use Rattle.cspf_book_run.specs.declared.keeper.Keeping.{Keeping}
 use Rattle.cspf_book_run.specs.declared.keeper.Unkept.{Unkept}
 use Rattle.cspf_book_run.specs.declared.keeper.Unkept.TheVariants as unkept
 use Rattle.cspf_book_run.specs.declared.refusals.PlaceRefusal.{PlaceRefusal}
@@ -21,102 +20,100 @@ use Rattle.cspf_book_run.specs.declared.refusals.ReleaseRefusal.{ReleaseRefusal}
 use Rattle.cspf_book_run.specs.declared.refusals.ReleaseRefusal.TheVariants as unreleased
 use Rattle.cspf_book_run.specs.BookLines.{IsPlaceReply, refused_place_line, refused_release_line, released_line}
 use Rattle.cspf_book_run.specs.BookScript.{BookRunState, IsPlaceAnswered, after_answer, after_refusal, after_release}
-use Rattle.cspf_book_run.specs.BookSinks.{BookSinkState, IsPlacingKept, IsPlaceUnkept, IsReleased, IsReleaseUnkept, text_if_new}
+use Rattle.cspf_book.specs.Leading.{LeadsTo}
+use Rattle.cspf_book_run.specs.BookSinks.{BookSinkState, IsPlacingKept, IsPlaceUnkept, IsReleased, IsReleaseUnkept}
 use Rattle.cspf_book_run.specs.BookStates.{KeepsBook, BookLeads}
-use Rattle.cspf_book_run.specs.Keeping.{IsLineOf, IsTextWritten, IsTextCutOff, IsUnkept, IsUnrouted}
+use Rattle.cspf_book_run.specs.Keeping.{KeepSpec, IsLineOf, IsKeptIfNew, IsCutWith, IsUnkept, IsUnrouted}
 use Rattle.cspf_book_run.specs.KeptStates.{IsRowDone, IsRowFailed}
 use Rattle.cspf_book_run.specs.PlaceErrors.{refusal_of_placing}
 use Rattle.cspf_book_run.specs.declared.refusals.PlaceRefusal.TheVariants as unplaced
-use Rattle.cspf_book_run.proofs.BookSteps.{no_text, whole_text, nothing_written}
 use Rattle.cspf_book_run.proofs.ReplyLines.{line_of_route}
 
 -- ---- what the book does for a row
 
 -- If the book finds the best answer to a request and places the request, the `place` row is answered
 -- as `IsPlaceAnswered` states.
-pub placed : (old new : BookState) (q : Request) (hold : ℕ) (answer : Answer) (version : ℕ) (line : List ℕ)
+pub placed : (old new : BookState) (skipped : ℕ) (q : Request) (hold : ℕ) (answer : Answer) (version : ℕ) (line : List ℕ)
     → old.version < 900000 → HasRoomFor old q.id → IsBestAnswer (effective_beside old q.id) q answer → IsAnswerPlaced old q hold answer new
-    → version ≡ new.version → IsPlaceReply q.id version answer line → (s : BookRunState) → old ≡ s.book → IsPlaceAnswered s q hold line new
-placed old new q hold answer version line room few best is is_version reply s same = record {
+    → version ≡ new.version - skipped → IsPlaceReply q.id version answer line → (s : BookRunState) → old ≡ s.book → skipped ≡ s.skipped → IsPlaceAnswered s q hold line new
+placed old new skipped q hold answer version line room few best is is_version reply s same same_skipped = record {
   room = subst (λ (b : BookState). b.version < 900000) same room;
   few = subst (λ (b : BookState). HasRoomFor b q.id) same few;
   answer = answer;
   best = subst (λ (b : BookState). IsBestAnswer (effective_beside b q.id) q answer) same best;
   placed = subst (λ (b : BookState). IsAnswerPlaced b q hold answer new) same is;
-  reply = rw is_version at reply;
+  reply = subst (λ (n : ℕ). IsPlaceReply q.id n answer line) (is_version ∙ ap (λ (n : ℕ). new.version - n) same_skipped) reply;
 }
 
 -- ---- what the book and the writer do for a `place` row
 
 -- what the keeper of a run does with a batch that it refuses, and with the batch of a placing
-abbrev pub KeeperRefuses : {K : Type 0} → (K → Option (List ℕ)) → Keeper K → NumberedChanges → Unkept → Keeper K → Type 0
-KeeperRefuses contents before b why after = IsUnkept contents before.keeping before.text.items why after.keeping
+abbrev pub KeeperRefuses : {S : Type 0} → KeepSpec S → Keeper S → NumberedChanges → Unkept → Keeper S → Type 0
+KeeperRefuses spec before b why after = IsUnkept spec before.keeping before.text.items b why after.keeping
 
-abbrev KeeperPlaces : {K : Type 0} → (K → Option (List ℕ)) → Keeper K → NumberedChanges → Answer → Keeper K → Type 0
-KeeperPlaces contents before b answer after =
-    IsTextWritten contents before.keeping before.text.items after.keeping × IsPlaceReply before.id b.number answer after.line.items
+abbrev KeeperPlaces : {S : Type 0} → KeepSpec S → Keeper S → NumberedChanges → Answer → Keeper S → Type 0
+KeeperPlaces spec before b answer after =
+    spec.keeps before.keeping before.text.items b after.keeping × IsPlaceReply before.id before.named answer after.line.items
 
-module _ {K : Type 0} (contents : K → Option (List ℕ)) (old new : BookState) (q : Request) (hold : ℕ) (before after : Keeper K) where
-  -- If the answer isn't a route, nothing is written.
-  pub same_keeping : (answer : Answer) → IsUnrouted answer → IsPlacingTaken (KeeperPlaces contents) old q.id before answer new after → after.keeping ≡ before.keeping
+module _ {S : Type 0} (spec : KeepSpec S) (old new : BookState) (q : Request) (hold : ℕ) (before after : Keeper S) where
+  -- If the answer isn't a route, nothing is kept.
+  pub same_keeping : (answer : Answer) → IsUnrouted answer → IsPlacingTaken (KeeperPlaces spec) old q.id before answer new after → after.keeping ≡ before.keeping
   same_keeping (route walk) none taken = absurd none
-  same_keeping other none taken = ap (λ (x : Keeper K). x.keeping) taken
+  same_keeping other none taken = ap (λ (x : Keeper S). x.keeping) taken
 
   -- The line of the row, which was made before the write if the answer is a route.
-  pub line_is : (answer : Answer) (version : ℕ) (line : List ℕ) → before.id ≡ q.id → version ≡ new.version → IsPlacingTaken (KeeperPlaces contents) old q.id before answer new after
+  pub line_is : (answer : Answer) (skipped version : ℕ) (line : List ℕ) → before.id ≡ q.id → before.named ≡ old.version + 1 - skipped → version ≡ new.version - skipped → IsPlacingTaken (KeeperPlaces spec) old q.id before answer new after
       → IsLineOf after.line.items after.id version answer line → IsPlaceReply q.id version answer line
-  line_is (route walk) version line own is (b, moves, taken) made =
-      let number : b.number ≡ version = moves.leads.number ∙ sym moves.leads.version ∙ sym is in
+  line_is (route walk) skipped version line own named is (b, moves, taken) made =
+      let number : before.named ≡ version = named ∙ ap (λ (n : ℕ). n - skipped) (sym moves.leads.version) ∙ sym is in
       rw made (subst (λ (n : ℕ). IsPlaceReply n version (route walk) after.line.items) own (subst (λ (n : ℕ). IsPlaceReply before.id n (route walk) after.line.items) number taken.1))
-  line_is other version line own is taken made = subst (λ (n : ℕ). IsPlaceReply n version other line) (ap (λ (x : Keeper K). x.id) taken ∙ own) made
+  line_is other skipped version line own named is taken made = subst (λ (n : ℕ). IsPlaceReply n version other line) (ap (λ (x : Keeper S). x.id) taken ∙ own) made
 
-  -- The row's text is written if the book has a new version, and otherwise nothing is written.
-  pub kept_text : (answer : Answer) (text : List ℕ) → before.text.items ≡ text → IsAnswerPlaced old q hold answer new → IsPlacingTaken (KeeperPlaces contents) old q.id before answer new after
-      → IsTextWritten contents before.keeping (text_if_new old new text) after.keeping
+  -- The row's text is kept if the book has a new version, and otherwise nothing is kept.
+  pub kept_text : (answer : Answer) (text : List ℕ) → before.text.items ≡ text → IsAnswerPlaced old q hold answer new → IsPlacingTaken (KeeperPlaces spec) old q.id before answer new after
+      → IsKeptIfNew spec old new before.keeping text after.keeping
   kept_text (route walk) text text_is along (b, moves, taken) =
-      subst (λ (x : List ℕ). IsTextWritten contents before.keeping x after.keeping) (text_is ∙ sym (whole_text old.version new.version text along.version)) taken.0
-  kept_text other text text_is same taken =
-      nothing_written contents before.keeping after.keeping (text_if_new old new text) (no_text old new text same) (ap (λ (x : Keeper K). x.keeping) taken)
+      inr (b, moves.leads, subst (λ (x : List ℕ). spec.keeps before.keeping x b after.keeping) text_is taken.0)
+  kept_text other text text_is same taken = inl (same, ap (λ (x : Keeper S). x.keeping) taken)
 
-  -- If memory is refused, nothing is written.
-  pub unchanged : (why : VersionError PlaceError Unkept) → refusal_of_placing why ≡ None → IsUnplaced (KeeperRefuses contents) old q hold before why after → after.keeping ≡ before.keeping
-  unchanged (version_error.Book why) is un = ap (λ (x : Keeper K). x.keeping) un.1
+  -- If memory is refused, nothing is kept.
+  pub unchanged : (why : VersionError PlaceError Unkept) → refusal_of_placing why ≡ None → IsUnplaced (KeeperRefuses spec) old q hold before why after → after.keeping ≡ before.keeping
+  unchanged (version_error.Book why) is un = ap (λ (x : Keeper S). x.keeping) un.1
   unchanged (version_error.Taker unkept.Memory) is un = un.refused
   unchanged (version_error.Taker (unkept.Failed written)) is un = absurd (cc is)
 
-  -- If the book doesn't place a request, or the row isn't written, the row is refused for the right
+  -- If the book doesn't place a request, or the row's text isn't kept, the row is refused for the right
   -- reason.
-  pub unplaced_by : (text : List ℕ) → before.text.items ≡ text → old.version < 900000 → before.keeping.stopped ≡ false → (why : VersionError PlaceError Unkept) (refusal : PlaceRefusal)
-      → refusal_of_placing why ≡ Some refusal → IsUnplaced (KeeperRefuses contents) old q hold before why after
-      → (s : BookRunState) → old ≡ s.book → IsPlaceUnkept contents s q hold text before.keeping refusal after.keeping
+  pub unplaced_by : (text : List ℕ) → before.text.items ≡ text → old.version < 900000 → spec.stopped before.keeping ≡ false → (why : VersionError PlaceError Unkept) (refusal : PlaceRefusal)
+      → refusal_of_placing why ≡ Some refusal → IsUnplaced (KeeperRefuses spec) old q hold before why after
+      → (s : BookRunState) → old ≡ s.book → IsPlaceUnkept spec s q hold text before.keeping refusal after.keeping
   unplaced_by text text_is room going (version_error.Book Memory) refusal is un s same = absurd (cc is)
   unplaced_by text text_is room going (version_error.Book Full) refusal is un s same =
       let e : unplaced.Full ≡ refusal = cc is in
-      subst (λ (r : PlaceRefusal). IsPlaceUnkept contents s q hold text before.keeping r after.keeping) e
-      (going, ap (λ (x : Keeper K). x.keeping) un.1, (subst (λ (b : BookState). b.version < 900000) same room, subst (λ (b : BookState). IsPlaceError b q Full) same un.0))
+      subst (λ (r : PlaceRefusal). IsPlaceUnkept spec s q hold text before.keeping r after.keeping) e
+      (going, ap (λ (x : Keeper S). x.keeping) un.1, (subst (λ (b : BookState). b.version < 900000) same room, subst (λ (b : BookState). IsPlaceError b q Full) same un.0))
   unplaced_by text text_is room going (version_error.Book TooManyLinks) refusal is un s same =
       let e : unplaced.Links ≡ refusal = cc is in
-      subst (λ (r : PlaceRefusal). IsPlaceUnkept contents s q hold text before.keeping r after.keeping) e
-      (going, ap (λ (x : Keeper K). x.keeping) un.1, (subst (λ (b : BookState). b.version < 900000) same room, subst (λ (b : BookState). IsPlaceError b q TooManyLinks) same un.0))
+      subst (λ (r : PlaceRefusal). IsPlaceUnkept spec s q hold text before.keeping r after.keeping) e
+      (going, ap (λ (x : Keeper S). x.keeping) un.1, (subst (λ (b : BookState). b.version < 900000) same room, subst (λ (b : BookState). IsPlaceError b q TooManyLinks) same un.0))
   unplaced_by text text_is room going (version_error.Book Twice) refusal is un s same =
       let e : unplaced.Twice ≡ refusal = cc is in
-      subst (λ (r : PlaceRefusal). IsPlaceUnkept contents s q hold text before.keeping r after.keeping) e
-      (going, ap (λ (x : Keeper K). x.keeping) un.1, (subst (λ (b : BookState). b.version < 900000) same room, subst (λ (b : BookState). IsPlaceError b q Twice) same un.0))
+      subst (λ (r : PlaceRefusal). IsPlaceUnkept spec s q hold text before.keeping r after.keeping) e
+      (going, ap (λ (x : Keeper S). x.keeping) un.1, (subst (λ (b : BookState). b.version < 900000) same room, subst (λ (b : BookState). IsPlaceError b q Twice) same un.0))
   unplaced_by text text_is room going (version_error.Book TooLong) refusal is un s same =
       let e : unplaced.Long ≡ refusal = cc is in
-      subst (λ (r : PlaceRefusal). IsPlaceUnkept contents s q hold text before.keeping r after.keeping) e
-      (going, ap (λ (x : Keeper K). x.keeping) un.1, (subst (λ (b : BookState). b.version < 900000) same room, subst (λ (b : BookState). IsPlaceError b q TooLong) same un.0))
+      subst (λ (r : PlaceRefusal). IsPlaceUnkept spec s q hold text before.keeping r after.keeping) e
+      (going, ap (λ (x : Keeper S). x.keeping) un.1, (subst (λ (b : BookState). b.version < 900000) same room, subst (λ (b : BookState). IsPlaceError b q TooLong) same un.0))
   unplaced_by text text_is room going (version_error.Taker unkept.Memory) refusal is un s same = absurd (cc is)
   unplaced_by text text_is room going (version_error.Taker (unkept.Failed written)) refusal is un s same =
       let e : unplaced.Keep written ≡ refusal = cc is in
-      let line = line_of_route q.id un.t.version un.walk in
-      subst (λ (r : PlaceRefusal). IsPlaceUnkept contents s q hold text before.keeping r after.keeping) e (
+      let line = line_of_route q.id (un.t.version - s.skipped) un.walk in
+      subst (λ (r : PlaceRefusal). IsPlaceUnkept spec s q hold text before.keeping r after.keeping) e (
         going,
-        subst (λ (x : List ℕ). IsTextCutOff contents written before.keeping x after.keeping) text_is un.refused,
         line.0,
         un.t,
-        placed old un.t q hold (route un.walk) un.t.version line.0 room un.room un.best un.placed refl line.1 s same,
-        un.placed.version ∙ ap (λ (b : BookState). b.version + 1) same,
+        placed old un.t s.skipped q hold (route un.walk) (un.t.version - s.skipped) line.0 room un.room un.best un.placed refl line.1 s same refl,
+        (un.batch, subst (λ (b : BookState). LeadsTo b un.batch un.t) same un.moves.leads, subst (λ (x : List ℕ). spec.fails before.keeping x un.batch written after.keeping) text_is un.refused),
       )
 
 -- ---- errors
@@ -130,23 +127,24 @@ on_err (Err e) P p = p
 
 -- If the code counts a refusal and leaves the book unchanged, the next state of the run is
 -- `after_refusal`.
-pub after_refused : {K : Type 0} (k k' : Rows (BookSinkState K)) → k'.sink.batches ≡ k.sink.batches → k'.changes ≡ k.changes → k'.sink.book ≡ k.sink.book → k'.answers ≡ k.answers
-    → k'.refused ≡ k.refused + 1 → (s : BookRunState) → KeepsBook k s → KeepsBook k' (after_refusal s)
-after_refused k k' batches changes book answers refused s kept = record {
+pub after_refused : {S : Type 0} (k k' : Rows (BookSinkState S)) → k'.sink.batches ≡ k.sink.batches → k'.sink.skipped ≡ k.sink.skipped → k'.changes ≡ k.changes → k'.sink.book ≡ k.sink.book
+    → k'.answers ≡ k.answers → k'.refused ≡ k.refused + 1 → (s : BookRunState) → KeepsBook k s → KeepsBook k' (after_refusal s)
+after_refused k k' batches skipped changes book answers refused s kept = record {
   book = book ∙ kept.book;
   batches = batches ∙ kept.batches;
+  skipped = skipped ∙ kept.skipped;
   changes = rw changes kept.changes;
   answers = answers ∙ kept.answers;
   refused = refused ∙ ap (λ n. n + 1) kept.refused;
 }
 
 -- If a row couldn't be read, the code counts a refusal and changes nothing else.
-pub refusal_counted : {K : Type 0} (k k' : Rows (BookSinkState K)) → k'.sink ≡ k.sink → k'.changes ≡ k.changes → k'.answers ≡ k.answers → k'.refused ≡ k.refused + 1
+pub refusal_counted : {S : Type 0} (k k' : Rows (BookSinkState S)) → k'.sink ≡ k.sink → k'.changes ≡ k.changes → k'.answers ≡ k.answers → k'.refused ≡ k.refused + 1
     → (line text : List ℕ) → line ≡ text → BookLeads k k' (λ s t. ((line ≡ text) × (t ≡ after_refusal s)) × (k'.sink.keeping ≡ k.sink.keeping))
-refusal_counted {K} k k' sink changes answers refused line text line_is s kept = (
+refusal_counted {S} k k' sink changes answers refused line text line_is s kept = (
   after_refusal s,
-  after_refused k k' (ap (λ (x : BookSinkState K). x.batches) sink) changes (ap (λ (x : BookSinkState K). x.book) sink) answers refused s kept,
-  ((line_is, refl), ap (λ (x : BookSinkState K). x.keeping) sink),
+  after_refused k k' (ap (λ (x : BookSinkState S). x.batches) sink) (ap (λ (x : BookSinkState S). x.skipped) sink) changes (ap (λ (x : BookSinkState S). x.book) sink) answers refused s kept,
+  ((line_is, refl), ap (λ (x : BookSinkState S). x.keeping) sink),
 )
 
 -- ---- what the code does for a row
@@ -155,110 +153,109 @@ refusal_counted {K} k k' sink changes answers refused line text line_is s kept =
 abbrev pub own_text : List (List ℕ) → List ℕ
 own_text fields = row_text default_writer fields
 
-module _ {K : Type 0} (contents : K → Option (List ℕ)) (fields : List (List ℕ)) (text : List ℕ) (text_is : text ≡ own_text fields) where
-  -- The text that the code writes for a row that is accepted or leaves the book unchanged.
-  pub written_text : (old new s : BookState) (k k' : Keeping K) → old ≡ s → IsTextWritten contents k (cond (new.version == old.version) [] text) k'
-      → IsTextWritten contents k (cond (new.version == s.version) [] (own_text fields)) k'
-  written_text old new s k k' same written =
-      subst (λ (b : BookState). IsTextWritten contents k (cond (new.version == b.version) [] (own_text fields)) k') same
-      (subst (λ (x : List ℕ). IsTextWritten contents k (cond (new.version == old.version) [] x) k') text_is written)
+module _ {S : Type 0} (spec : KeepSpec S) (fields : List (List ℕ)) (text : List ℕ) (text_is : text ≡ own_text fields) where
+  -- The text that is kept for a row that is accepted or leaves the book unchanged.
+  pub kept_row : (old new s : BookState) (k k' : S) → old ≡ s → IsKeptIfNew spec old new k text k' → IsKeptIfNew spec s new k (own_text fields) k'
+  kept_row old new s k k' same kept =
+      subst (λ (b : BookState). IsKeptIfNew spec b new k (own_text fields) k') same (subst (λ (x : List ℕ). IsKeptIfNew spec old new k x k') text_is kept)
 
-  pub cut_text : (written old new : ℕ) (k k' : Keeping K) → new ≡ old + 1 → IsTextCutOff contents written k text k' → IsTextCutOff contents written k (cond (new == old) [] (own_text fields)) k'
-  cut_text written old new k k' rises cut =
-      subst (λ (x : List ℕ). IsTextCutOff contents written k x k') (text_is ∙ sym (whole_text old new (own_text fields) rises)) cut
+  pub cut_row : (written : ℕ) (s t : BookState) (k k' : S) → IsCutWith spec s t written k text k' → IsCutWith spec s t written k (own_text fields) k'
+  cut_row written s t k k' cut = subst (λ (x : List ℕ). IsCutWith spec s t written k x k') text_is cut
 
-  -- The write of the text of a `place` row fails.
-  place_failed : (s : BookRunState) (q : Request) (hold written : ℕ) (line : List ℕ) (k k' : Keeping K) → IsPlaceUnkept contents s q hold text k (unplaced.Keep written) k'
-      → line ≡ refused_place_line q.id (unplaced.Keep written) → IsRowFailed contents s fields (book_row.Place q hold) line (after_refusal s) k k'
-  place_failed s q hold written line k k' (going, cut, lines, book, answered, rises) line_is = record {
+  -- The text of a `place` row isn't kept.
+  place_failed : (s : BookRunState) (q : Request) (hold written : ℕ) (line : List ℕ) (k k' : S) → IsPlaceUnkept spec s q hold text k (unplaced.Keep written) k'
+      → line ≡ refused_place_line q.id (unplaced.Keep written) → IsRowFailed spec s fields (book_row.Place q hold) line (after_refusal s) k k'
+  place_failed s q hold written line k k' (going, lines, book, answered, cut) line_is = record {
     written = written;
     lines = lines;
     next = after_answer s book;
     going = going;
     accepted = inl (answered, refl);
-    cut_off = cut_text written s.book.version book.version k k' rises cut;
+    cut_off = cut_row written s.book book k k' cut;
     refused = (line_is, refl);
   }
 
-  release_failed : (s : BookRunState) (id written : ℕ) (line : List ℕ) (k k' : Keeping K) → IsReleaseUnkept contents s id text k (unreleased.Keep written) k'
-      → line ≡ refused_release_line id (unreleased.Keep written) → IsRowFailed contents s fields (book_row.Release id) line (after_refusal s) k k'
-  release_failed s id written line k k' (going, cut, room, has) line_is = record {
+  release_failed : (s : BookRunState) (id written : ℕ) (line : List ℕ) (k k' : S) → IsReleaseUnkept spec s id text k (unreleased.Keep written) k'
+      → line ≡ refused_release_line id (unreleased.Keep written) → IsRowFailed spec s fields (book_row.Release id) line (after_refusal s) k k'
+  release_failed s id written line k k' (going, room, has, cut) line_is = record {
     written = written;
-    lines = released_line id (s.book.version + 1);
+    lines = released_line id (s.book.version + 1 - s.skipped);
     next = after_release s id;
     going = going;
     accepted = inl (room, has, refl, refl);
-    cut_off = cut_text written s.book.version (s.book.version + 1) k k' refl cut;
+    cut_off = cut_row written s.book (after_release s id).book k k' cut;
     refused = (line_is, refl);
   }
 
-  place_unkept : (s : BookRunState) (q : Request) (hold : ℕ) (why : PlaceRefusal) (line : List ℕ) (k k' : Keeping K) → IsPlaceUnkept contents s q hold text k why k'
-      → line ≡ refused_place_line q.id why → IsRowDone contents s fields (book_row.Place q hold) line (after_refusal s) k k'
+  place_unkept : (s : BookRunState) (q : Request) (hold : ℕ) (why : PlaceRefusal) (line : List ℕ) (k k' : S) → IsPlaceUnkept spec s q hold text k why k'
+      → line ≡ refused_place_line q.id why → IsRowDone spec s fields (book_row.Place q hold) line (after_refusal s) k k'
   place_unkept s q hold unplaced.Stopped line k k' is line_is = inr (inr (is.0, (line_is, refl), is.1))
   place_unkept s q hold (unplaced.Keep written) line k k' is line_is = inr (inl (place_failed s q hold written line k k' is line_is))
   place_unkept s q hold why line k k' is line_is =
-      inl (is.0, inr (why, is.2, line_is, refl), nothing_written contents k k' (cond (s.book.version == s.book.version) [] (own_text fields)) (no_text s.book s.book (own_text fields) refl) is.1)
+      inl (is.0, inr (why, is.2, line_is, refl), inl (refl, is.1))
 
-  release_unkept : (s : BookRunState) (id : ℕ) (why : ReleaseRefusal) (line : List ℕ) (k k' : Keeping K) → IsReleaseUnkept contents s id text k why k'
-      → line ≡ refused_release_line id why → IsRowDone contents s fields (book_row.Release id) line (after_refusal s) k k'
+  release_unkept : (s : BookRunState) (id : ℕ) (why : ReleaseRefusal) (line : List ℕ) (k k' : S) → IsReleaseUnkept spec s id text k why k'
+      → line ≡ refused_release_line id why → IsRowDone spec s fields (book_row.Release id) line (after_refusal s) k k'
   release_unkept s id unreleased.Stopped line k k' is line_is = inr (inr (is.0, (line_is, refl), is.1))
   release_unkept s id (unreleased.Keep written) line k k' is line_is = inr (inl (release_failed s id written line k k' is line_is))
   release_unkept s id why line k k' is line_is =
-      inl (is.0, inr (why, is.2, line_is, refl), nothing_written contents k k' (cond (s.book.version == s.book.version) [] (own_text fields)) (no_text s.book s.book (own_text fields) refl) is.1)
+      inl (is.0, inr (why, is.2, line_is, refl), inl (refl, is.1))
 
-  place_lost_as : (s : BookRunState) (q : Request) (hold : ℕ) (why : PlaceRefusal) (k k' : Keeping K) → IsPlaceUnkept contents s q hold text k why k'
-      → (k' ≡ k) ⊎ ((line : List ℕ) × (t : BookRunState) × IsRowFailed contents s fields (book_row.Place q hold) line t k k')
+  place_lost_as : (s : BookRunState) (q : Request) (hold : ℕ) (why : PlaceRefusal) (k k' : S) → IsPlaceUnkept spec s q hold text k why k'
+      → (k' ≡ k) ⊎ ((line : List ℕ) × (t : BookRunState) × IsRowFailed spec s fields (book_row.Place q hold) line t k k')
   place_lost_as s q hold unplaced.Stopped k k' is = inl is.1
   place_lost_as s q hold (unplaced.Keep written) k k' is = inr (refused_place_line q.id (unplaced.Keep written), after_refusal s, place_failed s q hold written (refused_place_line q.id (unplaced.Keep written)) k k' is refl)
   place_lost_as s q hold why k k' is = inl is.1
 
-  release_lost_as : (s : BookRunState) (id : ℕ) (why : ReleaseRefusal) (k k' : Keeping K) → IsReleaseUnkept contents s id text k why k'
-      → (k' ≡ k) ⊎ ((line : List ℕ) × (t : BookRunState) × IsRowFailed contents s fields (book_row.Release id) line t k k')
+  release_lost_as : (s : BookRunState) (id : ℕ) (why : ReleaseRefusal) (k k' : S) → IsReleaseUnkept spec s id text k why k'
+      → (k' ≡ k) ⊎ ((line : List ℕ) × (t : BookRunState) × IsRowFailed spec s fields (book_row.Release id) line t k k')
   release_lost_as s id unreleased.Stopped k k' is = inl is.1
   release_lost_as s id (unreleased.Keep written) k k' is = inr (refused_release_line id (unreleased.Keep written), after_refusal s, release_failed s id written (refused_release_line id (unreleased.Keep written)) k k' is refl)
   release_lost_as s id why k k' is = inl is.1
 
-  -- If memory is refused for the line that refuses a `place` or `release` row, nothing is written,
-  -- or the write of the row's text fails.
-  pub place_lost : (k : Rows (BookSinkState K)) (keeping : Keeping K) (q : Request) (hold : ℕ) (why : PlaceRefusal)
-      → ((s : BookRunState) → k.sink.book ≡ s.book → IsPlaceUnkept contents s q hold text k.sink.keeping why keeping) → (s : BookRunState) → KeepsBook k s
-      → (keeping ≡ k.sink.keeping) ⊎ ((line : List ℕ) × (t : BookRunState) × IsRowFailed contents s fields (book_row.Place q hold) line t k.sink.keeping keeping)
+  -- If memory is refused for the line that refuses a `place` or `release` row, nothing is kept,
+  -- or the row's text isn't kept.
+  pub place_lost : (k : Rows (BookSinkState S)) (keeping : S) (q : Request) (hold : ℕ) (why : PlaceRefusal)
+      → ((s : BookRunState) → k.sink.book ≡ s.book → IsPlaceUnkept spec s q hold text k.sink.keeping why keeping) → (s : BookRunState) → KeepsBook k s
+      → (keeping ≡ k.sink.keeping) ⊎ ((line : List ℕ) × (t : BookRunState) × IsRowFailed spec s fields (book_row.Place q hold) line t k.sink.keeping keeping)
   place_lost k keeping q hold why is s kept = place_lost_as s q hold why k.sink.keeping keeping (is s kept.book)
 
-  pub release_lost : (k : Rows (BookSinkState K)) (keeping : Keeping K) (id : ℕ) (why : ReleaseRefusal)
-      → ((s : BookRunState) → k.sink.book ≡ s.book → IsReleaseUnkept contents s id text k.sink.keeping why keeping) → (s : BookRunState) → KeepsBook k s
-      → (keeping ≡ k.sink.keeping) ⊎ ((line : List ℕ) × (t : BookRunState) × IsRowFailed contents s fields (book_row.Release id) line t k.sink.keeping keeping)
+  pub release_lost : (k : Rows (BookSinkState S)) (keeping : S) (id : ℕ) (why : ReleaseRefusal)
+      → ((s : BookRunState) → k.sink.book ≡ s.book → IsReleaseUnkept spec s id text k.sink.keeping why keeping) → (s : BookRunState) → KeepsBook k s
+      → (keeping ≡ k.sink.keeping) ⊎ ((line : List ℕ) × (t : BookRunState) × IsRowFailed spec s fields (book_row.Release id) line t k.sink.keeping keeping)
   release_lost k keeping id why is s kept = release_lost_as s id why k.sink.keeping keeping (is s kept.book)
 
-  module _ (k k' : Rows (BookSinkState K)) (batches : k'.sink.batches ≡ k.sink.batches) (changes : k'.changes ≡ k.changes) where
-    -- If the book answers a request, and the code writes the row's text and counts an answer, the
+  module _ (k k' : Rows (BookSinkState S)) (batches : k'.sink.batches ≡ k.sink.batches) (skipped : k'.sink.skipped ≡ k.sink.skipped) (changes : k'.changes ≡ k.changes) where
+    -- If the book answers a request, and the code keeps the row's text and counts an answer, the
     -- `place` row is answered as `IsRowDone` states.
-    pub place_answered : (q : Request) (hold : ℕ) (line : List ℕ) → ((s : BookRunState) → k.sink.book ≡ s.book → IsPlaceAnswered s q hold line k'.sink.book)
-        → IsPlacingKept contents k.sink text k'.sink → k'.answers ≡ k.answers + 1 → k'.refused ≡ k.refused
-        → BookLeads k k' (λ s t. IsRowDone contents s fields (book_row.Place q hold) line t k.sink.keeping k'.sink.keeping)
+    pub place_answered : (q : Request) (hold : ℕ) (line : List ℕ) → ((s : BookRunState) → k.sink.book ≡ s.book → k.sink.skipped ≡ s.skipped → IsPlaceAnswered s q hold line k'.sink.book)
+        → IsPlacingKept spec k.sink text k'.sink → k'.answers ≡ k.answers + 1 → k'.refused ≡ k.refused
+        → BookLeads k k' (λ s t. IsRowDone spec s fields (book_row.Place q hold) line t k.sink.keeping k'.sink.keeping)
     place_answered q hold line is written answers refused s kept = (
       after_answer s k'.sink.book,
       record {
         book = refl;
         batches = batches ∙ kept.batches;
+        skipped = skipped ∙ kept.skipped;
         changes = rw changes kept.changes;
         answers = answers ∙ ap (λ n. n + 1) kept.answers;
         refused = refused ∙ kept.refused;
       },
-      inl (written.0, inl (is s kept.book, refl), written_text k.sink.book k'.sink.book s.book k.sink.keeping k'.sink.keeping kept.book written.1),
+      inl (written.0, inl (is s kept.book kept.skipped, refl), kept_row k.sink.book k'.sink.book s.book k.sink.keeping k'.sink.keeping kept.book written.1),
     )
 
-    -- If the book releases the placement with this id, and the code writes the row's text, the
+    -- If the book releases the placement with this id, and the code keeps the row's text, the
     -- `release` row is answered as `IsRowDone` states.
-    pub release_done : (id : ℕ) (line : List ℕ) → ((s : BookRunState) → k.sink.book ≡ s.book → IsReleased s id line k'.sink.book)
-        → IsPlacingKept contents k.sink text k'.sink → k'.answers ≡ k.answers → k'.refused ≡ k.refused
-        → BookLeads k k' (λ s t. IsRowDone contents s fields (book_row.Release id) line t k.sink.keeping k'.sink.keeping)
+    pub release_done : (id : ℕ) (line : List ℕ) → ((s : BookRunState) → k.sink.book ≡ s.book → k.sink.skipped ≡ s.skipped → IsReleased s id line k'.sink.book)
+        → IsPlacingKept spec k.sink text k'.sink → k'.answers ≡ k.answers → k'.refused ≡ k.refused
+        → BookLeads k k' (λ s t. IsRowDone spec s fields (book_row.Release id) line t k.sink.keeping k'.sink.keeping)
     release_done id line is written answers refused s kept =
-        let done = is s kept.book in (
+        let done = is s kept.book kept.skipped in (
           after_release s id,
           record {
             book = done.3;
             batches = batches ∙ kept.batches;
+            skipped = skipped ∙ kept.skipped;
             changes = rw changes kept.changes;
             answers = answers ∙ kept.answers;
             refused = refused ∙ kept.refused;
@@ -266,26 +263,26 @@ module _ {K : Type 0} (contents : K → Option (List ℕ)) (fields : List (List 
           inl (
             written.0,
             inl (done.0, done.1, done.2, refl),
-            subst (λ (b : BookState). IsTextWritten contents k.sink.keeping (cond (b.version == s.book.version) [] (own_text fields)) k'.sink.keeping) done.3
-                (written_text k.sink.book k'.sink.book s.book k.sink.keeping k'.sink.keeping kept.book written.1),
+            subst (λ (b : BookState). IsKeptIfNew spec s.book b k.sink.keeping (own_text fields) k'.sink.keeping) done.3
+                (kept_row k.sink.book k'.sink.book s.book k.sink.keeping k'.sink.keeping kept.book written.1),
           ),
         )
 
     module _ (book : k'.sink.book ≡ k.sink.book) (answers : k'.answers ≡ k.answers) (refused : k'.refused ≡ k.refused + 1) where
       pub place_refused : (q : Request) (hold : ℕ) (why : PlaceRefusal) (line : List ℕ)
-          → ((s : BookRunState) → k.sink.book ≡ s.book → IsPlaceUnkept contents s q hold text k.sink.keeping why k'.sink.keeping) → line ≡ refused_place_line q.id why
-          → BookLeads k k' (λ s t. IsRowDone contents s fields (book_row.Place q hold) line t k.sink.keeping k'.sink.keeping)
+          → ((s : BookRunState) → k.sink.book ≡ s.book → IsPlaceUnkept spec s q hold text k.sink.keeping why k'.sink.keeping) → line ≡ refused_place_line q.id why
+          → BookLeads k k' (λ s t. IsRowDone spec s fields (book_row.Place q hold) line t k.sink.keeping k'.sink.keeping)
       place_refused q hold why line is line_is s kept = (
         after_refusal s,
-        after_refused k k' batches changes book answers refused s kept,
+        after_refused k k' batches skipped changes book answers refused s kept,
         place_unkept s q hold why line k.sink.keeping k'.sink.keeping (is s kept.book) line_is,
       )
 
       pub release_refused : (id : ℕ) (why : ReleaseRefusal) (line : List ℕ)
-          → ((s : BookRunState) → k.sink.book ≡ s.book → IsReleaseUnkept contents s id text k.sink.keeping why k'.sink.keeping) → line ≡ refused_release_line id why
-          → BookLeads k k' (λ s t. IsRowDone contents s fields (book_row.Release id) line t k.sink.keeping k'.sink.keeping)
+          → ((s : BookRunState) → k.sink.book ≡ s.book → IsReleaseUnkept spec s id text k.sink.keeping why k'.sink.keeping) → line ≡ refused_release_line id why
+          → BookLeads k k' (λ s t. IsRowDone spec s fields (book_row.Release id) line t k.sink.keeping k'.sink.keeping)
       release_refused id why line is line_is s kept = (
         after_refusal s,
-        after_refused k k' batches changes book answers refused s kept,
+        after_refused k k' batches skipped changes book answers refused s kept,
         release_unkept s id why line k.sink.keeping k'.sink.keeping (is s kept.book) line_is,
       )

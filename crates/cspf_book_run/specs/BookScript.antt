@@ -1,7 +1,7 @@
 -- Which lines a book writes for a stream of rows, as long as no write to `keep`, the writer of
 -- accepted rows, fails. The stream and the lines are lists of bytes. `KeptRuns.antt` defines a
 -- whole run, in which a write may fail.
-use Rattle.std.specs.Prelude.{◌≡◌, ℕ, ◌+◌, ◌<◌, ◌≤◌, ◌⊎◌, Bool, IsTrue, List, [], ◌∷◌, ◌++◌, Option, Some, None, Result, Ok, Err}
+use Rattle.std.specs.Prelude.{◌≡◌, ℕ, ◌+◌, ◌-◌, ◌<◌, ◌≤◌, ◌⊎◌, Bool, IsTrue, List, [], ◌∷◌, ◌++◌, Option, Some, None, Result, Ok, Err}
 use Rattle.std.specs.List.{flat_map}
 use Rattle.cspf_model.specs.declared.batch.Change.{Change}
 use Rattle.cspf_book_run.specs.declared.limits.TheConstants.{MOST_PLACING_VERSIONS}
@@ -59,8 +59,11 @@ pub record BookRunState : Type 0 where
   pub answers : ℕ
   -- how many refusals there were: of rows that couldn't be read, of batches, and of rows about placements
   pub refused : ℕ
+  -- how many of the book's first versions aren't counted where lines name a version
+  pub skipped : ℕ
 
--- the state before the first row: version 0, the empty base, no placements and no open changes
+-- The state before the first row: version 0, the empty base, no placements and no open changes. Each
+-- version is counted.
 abbrev pub book_start : BookRunState
 book_start = record {
   book = record { base = no_links; version = 0; placements = [] };
@@ -69,7 +72,12 @@ book_start = record {
   changes = [];
   answers = 0;
   refused = 0;
+  skipped = 0;
 }
+
+-- the number by which lines name this version of the book
+abbrev pub name_of : BookRunState → ℕ → ℕ
+name_of s version = version - s.skipped
 
 -- how many base batches were accepted and placements restored, taken together
 abbrev pub changers : BookRunState → ℕ
@@ -137,7 +145,7 @@ IsBaseAccepted s number count = IsBatchAccepted s.book.version (s.batches + 1) s
 abbrev pub AreBaseLines : BookRunState → ℕ → List ℕ → Type 0
 AreBaseLines s number lines =
     (ids : List ℕ) × AreLost s.book.base (after_changes s.book.base s.changes) s.book.placements ids
-    × (lines ≡ flat_map over_line (over s.book.placements s.changes) ++ flat_map lost_line ids ++ base_line number (s.book.version + 1))
+    × (lines ≡ flat_map over_line (over s.book.placements s.changes) ++ flat_map lost_line ids ++ base_line number (name_of s (s.book.version + 1)))
 
 -- An end row is answered by the lines of its batch, or by the line that refuses the batch.
 abbrev pub IsBaseEndAnswered : BookRunState → ℕ → ℕ → List ℕ → BookRunState → Type 0
@@ -152,7 +160,7 @@ IsBaseEndAnswered s number count line after =
 abbrev pub IsAskAnswered : BookRunState → Request → List ℕ → BookRunState → Type 0
 IsAskAnswered s q line after =
     (answer : Answer) × IsBestAnswer (effective s.book.base s.book.placements) q answer
-    × IsReply q.id s.book.version answer line × (after ≡ after_answer s s.book)
+    × IsReply q.id (name_of s s.book.version) answer line × (after ≡ after_answer s s.book)
 
 -- Why a request isn't placed. The first of these reasons that applies is given. `Stopped` and `Keep`
 -- never apply here, because no write fails.
@@ -174,7 +182,7 @@ pub record IsPlaceAnswered (s : BookRunState) (q : Request) (hold : ℕ) (line :
   pub answer : Answer
   pub best : IsBestAnswer (effective_beside s.book q.id) q answer
   pub placed : IsAnswerPlaced s.book q hold answer book
-  pub reply : IsPlaceReply q.id book.version answer line
+  pub reply : IsPlaceReply q.id (name_of s book.version) answer line
 
 -- A `place` row is answered, or it is refused and the book is unchanged.
 abbrev pub IsPlaceTaken : BookRunState → Request → ℕ → List ℕ → BookRunState → Type 0
@@ -193,7 +201,7 @@ IsReleaseRefusal s id other = ⊥
 abbrev pub IsReleaseTaken : BookRunState → ℕ → List ℕ → BookRunState → Type 0
 IsReleaseTaken s id line after =
     ((s.book.version < MOST_PLACING_VERSIONS) × IsTrue (has_id id s.book.placements)
-    × (line ≡ released_line id (s.book.version + 1)) × (after ≡ after_release s id))
+    × (line ≡ released_line id (name_of s (s.book.version + 1))) × (after ≡ after_release s id))
     ⊎ ((why : ReleaseRefusal) × IsReleaseRefusal s id why × (line ≡ refused_release_line id why) × (after ≡ after_refusal s))
 
 -- Why a placement isn't restored. The first of these reasons that applies is given. `Stopped` and
@@ -211,7 +219,7 @@ IsHeldRefusal s p other = ⊥
 -- it makes the placements count more bandwidth than the link has. The placement's own line is last.
 abbrev pub held_lines : BookRunState → Placement → List ℕ
 held_lines s p =
-    flat_map over_line (made_over s.book.base s.book.placements p) ++ held_line (id_of p) (s.book.version + 1)
+    flat_map over_line (made_over s.book.base s.book.placements p) ++ held_line (id_of p) (name_of s (s.book.version + 1))
 
 -- A `held` row restores its placement, or it is refused and the book is unchanged.
 abbrev pub IsHeldTaken : BookRunState → Placement → List ℕ → BookRunState → Type 0
@@ -229,7 +237,7 @@ pub record IsOfferAnswered (s : BookRunState) (q : Request) (hold : ℕ) (line :
   pub best : IsBestAnswer (effective_beside s.book q.id) q answer
   pub placed : BookState
   pub may : IsAnswerPlaced s.book q hold answer placed
-  pub reply : IsOfferReply q.id s.book.version answer line
+  pub reply : IsOfferReply q.id (name_of s s.book.version) answer line
 
 -- An `offer` row is answered, or it is refused for the reason for which a `place` row of the same
 -- request would be. The book is unchanged.
@@ -240,12 +248,12 @@ IsOfferTaken s q hold line after =
 
 -- A `show` row shows the placement with this id. It is refused if there is none.
 abbrev pub IsShown : BookRunState → ℕ → Option Placement → List ℕ → BookRunState → Type 0
-IsShown s id (Some p) line after = (line ≡ show_line s.book.version p) × (after ≡ s)
+IsShown s id (Some p) line after = (line ≡ show_line (name_of s s.book.version) p) × (after ≡ s)
 IsShown s id None line after = (line ≡ refused_show_line id) × (after ≡ after_refusal s)
 
 -- A `left` row shows the figures of the base's link with this key. It is refused if there is none.
 abbrev pub IsLeftShown : BookRunState → Key → Option LinkFigures → List ℕ → BookRunState → Type 0
-IsLeftShown s k (Some figures) line after = (line ≡ left_line k.0 k.1 s.book.version figures) × (after ≡ s)
+IsLeftShown s k (Some figures) line after = (line ≡ left_line k.0 k.1 (name_of s s.book.version) figures) × (after ≡ s)
 IsLeftShown s k None line after = (line ≡ refused_left_line k.0 k.1) × (after ≡ after_refusal s)
 
 -- A row of the base is answered with this line: a change, an end row or a request. `after` is the
@@ -283,7 +291,7 @@ AreBookRowsAnswered rows lines after = AreAnswered book_answers 1 book_start row
 abbrev pub book_summary_of : ℕ → BookRunState → Bool → Summary
 book_summary_of rows s too_many = record {
   rows = rows;
-  version = s.book.version;
+  version = name_of s s.book.version;
   answers = s.answers;
   refused = s.refused + unended_count too_many s.changes;
   too_many = too_many;

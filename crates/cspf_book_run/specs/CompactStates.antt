@@ -1,4 +1,4 @@
--- Private: how the code answers the rows of which a shortest stream is made.
+-- Private: how the code answers the rows of which a compact stream is made.
 use Rattle.std.specs.Prelude.{◌≡◌, ◌<◌, ℕ, false, List, []}
 use Rattle.std.specs.List.{AllByRecursion}
 use Rattle.cspf_book.specs.PlacedRoutes.{ArePlaced}
@@ -13,10 +13,9 @@ use Rattle.cspf_book_run.specs.Compacts.{IsCompact, CompactsMakeBooks}
 use Rattle.cspf_book_run.specs.HeldRows.{IsPlacementInRange}
 use Rattle.cspf_book_run.specs.KeptStates.{IsBookLast}
 
--- The next row is row `place`, counted from 1, and no write has failed.
+-- The next row is row `place`, counted from 1.
 pub record IsCompactBefore (place : ℕ) (k : CompactRows) : Type 0 where
   pub rows : IsBookBefore place k.rows
-  pub going : k.rows.rows.sink.keeping.stopped ≡ false
 
 -- Row `place` is answered, and isn't refused. Nothing is written.
 pub record IsRowTaken (place : ℕ) (old : CompactRows) (fields : List (List ℕ)) (line : List ℕ) (new : CompactRows) : Type 0 where
@@ -35,12 +34,12 @@ IsCompactFault (stop.Stream why) place old fields new = Unit {0}
 IsCompactFault (stop.Refused row line) place old fields new = (row ≡ place) × IsCompactRefusal place old fields line.items new
 IsCompactFault (stop.Unended line) place old fields new = ⊥
 
--- why no shortest stream is made, if the answers to the rows stop so
+-- why no compact stream is made, if the answers to the rows stop so
 abbrev pub compact_stop_of : StreamStop CompactStop → CompactStop
 compact_stop_of (stream_stop.Stream why) = stop.Stream why
 compact_stop_of (stream_stop.Answer why) = why
 
--- No changes are open, and the text is the shortest stream of the book, which makes the base and the
+-- No changes are open, and the text is the compact stream of the book, which makes the base and the
 -- placements of the book.
 pub record IsBookCompact (k : CompactRows) (text : List ℕ) : Type 0 where
   pub closed : k.rows.rows.changes.count ≡ 0
@@ -49,7 +48,7 @@ pub record IsBookCompact (k : CompactRows) (text : List ℕ) : Type 0 where
   pub compact : IsCompact k.rows.rows.sink.book.base k.rows.rows.sink.book.placements text
   pub make : CompactsMakeBooks
 
--- why no shortest stream is made after the last row
+-- why no compact stream is made after the last row
 abbrev pub IsOpenStop : CompactRows → CompactStop → Type 0
 IsOpenStop k (stop.Stream why) = Unit {0}
 IsOpenStop k (stop.Refused row line) = ⊥

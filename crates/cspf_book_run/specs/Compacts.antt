@@ -1,4 +1,4 @@
--- The shortest stream of rows that makes the base and the placements of a book, and the run that
+-- The compact stream of rows that makes the base and the placements of a book, and the run that
 -- makes it of a stream.
 use Rattle.std.specs.Prelude.{◌≡◌, ◌<◌, ◌≤◌, ◌+◌, ℕ, List, [], ◌∷◌, ◌++◌, length}
 use Rattle.std.specs.List.{flat_map, AllByRecursion}
@@ -25,7 +25,7 @@ pub record IsCompact (base : Database) (placements : List Placement) (text : Lis
   pub whole : text ≡ journal_text making ++ flat_map held_text placements
 
 -- A run over the rows of the text makes this base and these placements. The run refuses no row, and
--- at its end no changes are open. Its version is the number of batches and placements.
+-- at its end no changes are open. Its version is at most 5 more than the number of placements.
 pub record MakesBook (text : List ℕ) (d : Database) (ps : List Placement) : Type 0 where
   pub lines : List ℕ
   pub after : BookRunState
@@ -36,7 +36,7 @@ pub record MakesBook (text : List ℕ) (d : Database) (ps : List Placement) : Ty
   pub refused : after.refused ≡ 0
   pub version : after.book.version ≤ 5 + length ps
 
--- The shortest stream of a book makes its base and its placements.
+-- The compact stream of a book makes its base and its placements.
 abbrev pub CompactsMakeBooks : Type 0
 CompactsMakeBooks =
     (s : BookState) (text : List ℕ) → ArePlaced s.placements → AllByRecursion IsWritable s.placements → IsCompact s.base s.placements text
@@ -46,7 +46,7 @@ CompactsMakeBooks =
 abbrev pub AreAllTaken : List (List (List ℕ)) → BookRunState → Type 0
 AreAllTaken rows after = (lines : List ℕ) × AreBookRowsAnswered rows lines after × (after.refused ≡ 0)
 
--- The text is the shortest stream of the book that a run over the rows makes. The run refuses no
+-- The text is the compact stream of the book that a run over the rows makes. The run refuses no
 -- row, and at its end no changes are open. A run over the text makes the same base and placements.
 pub record IsCompaction (rows : List (List (List ℕ))) (text : List ℕ) : Type 0 where
   pub after : BookRunState
@@ -75,7 +75,7 @@ pub record AreUnended (rows : List (List (List ℕ))) (line : List ℕ) : Type 0
   pub some : 0 < length after.changes
   pub said : line ≡ unended_line (length after.changes)
 
--- why no shortest stream is made of the rows
+-- why no compact stream is made of the rows
 abbrev pub IsCompactStop : CompactStop → List (List (List ℕ)) → Type 0
 IsCompactStop (stop.Stream why) rows = Unit {0}
 IsCompactStop (stop.Refused row line) rows = IsFirstRefused rows row line.items

@@ -1,9 +1,13 @@
--- Private: how the text of a row is written to `keep`, the writer of accepted rows.
-use Rattle.std.specs.Prelude.{◌≡◌, ℕ, ◌<◌, true, List, take, length, Option}
+-- Private: how the text of a row is kept before the book has the row's version.
+use Rattle.std.specs.Prelude.{◌≡◌, ℕ, ◌<◌, ◌⊎◌, Bool, true, false, List, take, length, Option}
 use Rattle.std.specs.Io.KnownBytes.{Appends}
 use Rattle.cspf_model.specs.Best.{Answer, route}
+use Rattle.cspf_model.specs.Numbered.{NumberedChanges}
+use Rattle.cspf_book.specs.BookState.{BookState}
+use Rattle.cspf_book.specs.Leading.{LeadsTo}
 use Rattle.cspf_book_run.specs.BookLines.{IsPlaceReply}
 use Rattle.cspf_book_run.specs.declared.keeper.Keeping.{Keeping}
+use Rattle.cspf_book_run.specs.declared.keeper.KeepsNothing.{KeepsNothing}
 use Rattle.cspf_book_run.specs.declared.keeper.Unkept.{Unkept}
 use Rattle.cspf_book_run.specs.declared.keeper.Unkept.TheVariants as unkept
 
@@ -17,6 +21,37 @@ abbrev pub IsUnrouted : Answer → Type 0
 IsUnrouted (route walk) = ⊥
 IsUnrouted other = Unit {0}
 
+-- How texts are kept, each with the batch of its row's version.
+pub record KeepSpec (S : Type 0) : Type 1 where
+  -- whether it is stopped, so that it keeps no more texts
+  pub stopped : S → Bool
+  -- In the first state it keeps the text of the version that the batch makes, and goes to the second
+  -- state.
+  pub keeps : S → List ℕ → NumberedChanges → S → Type 0
+  -- In the first state it fails to keep this text after so many of its bytes, and goes to the second
+  -- state.
+  pub fails : S → List ℕ → NumberedChanges → ℕ → S → Type 0
+
+module _ {S : Type 0} (spec : KeepSpec S) where
+  -- The text isn't kept. If memory is refused, nothing has changed.
+  abbrev pub IsUnkept : S → List ℕ → NumberedChanges → Unkept → S → Type 0
+  IsUnkept old text b unkept.Memory new = new ≡ old
+  IsUnkept old text b (unkept.Failed written) new = spec.fails old text b written new
+
+  -- The text is kept with the batch that leads from the book `s` to the book `t`.
+  abbrev pub IsKeptWith : BookState → BookState → S → List ℕ → S → Type 0
+  IsKeptWith s t old text new = (b : NumberedChanges) × LeadsTo s b t × spec.keeps old text b new
+
+  -- The text isn't kept, since a write failed after so many of its bytes. The batch leads from the
+  -- book `s` to the book `t`.
+  abbrev pub IsCutWith : BookState → BookState → ℕ → S → List ℕ → S → Type 0
+  IsCutWith s t written old text new = (b : NumberedChanges) × LeadsTo s b t × spec.fails old text b written new
+
+  -- The book goes from `s` to `t`. If this is a new version, the row's text is kept, and otherwise
+  -- nothing is kept.
+  abbrev pub IsKeptIfNew : BookState → BookState → S → List ℕ → S → Type 0
+  IsKeptIfNew s t old text new = ((t ≡ s) × (new ≡ old)) ⊎ IsKeptWith s t old text new
+
 module _ {K : Type 0} (contents : K → Option (List ℕ)) where
   -- The whole text is written.
   pub record IsTextWritten (old : Keeping K) (text : List ℕ) (new : Keeping K) : Type 0 where
@@ -29,7 +64,18 @@ module _ {K : Type 0} (contents : K → Option (List ℕ)) where
     pub part : written < length text
     pub front : Appends (contents old.keep) (contents new.keep) (take written text)
 
-  -- The text isn't written whole. If memory is refused, nothing is written.
-  abbrev pub IsUnkept : Keeping K → List ℕ → Unkept → Keeping K → Type 0
-  IsUnkept old text unkept.Memory new = new ≡ old
-  IsUnkept old text (unkept.Failed written) new = IsTextCutOff written old text new
+  -- The texts are written to the writer `keep`.
+  abbrev pub writer_spec : KeepSpec (Keeping K)
+  writer_spec = record {
+    stopped = λ k. k.stopped;
+    keeps = λ old text b new. IsTextWritten old text new;
+    fails = λ old text b written new. IsTextCutOff written old text new;
+  }
+
+-- Nothing is kept, and that never fails.
+abbrev pub nothing_spec : KeepSpec KeepsNothing
+nothing_spec = record {
+  stopped = λ k. false;
+  keeps = λ old text b new. new ≡ old;
+  fails = λ old text b written new. ⊥;
+}

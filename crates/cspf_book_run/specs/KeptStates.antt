@@ -1,68 +1,62 @@
--- Private: how the code answers one row and writes its text to `keep`, the writer of accepted rows.
-use Rattle.std.specs.Prelude.{◌≡◌, ◌==◌, if◌then◌else◌, ℕ, ◌⊎◌, Bool, true, false, List, [], Option, Result, Ok, Err}
+-- Private: how the code answers one row and keeps its text.
+use Rattle.std.specs.Prelude.{◌≡◌, ℕ, ◌⊎◌, Bool, true, false, List, Result, Ok, Err}
 use Rattle.cspf_stream.specs.Lines.{last_line}
 use Rattle.cspf_stream.specs.declared.rows.Rows.{Rows}
 use Rattle.cspf_book_run.specs.declared.book_row.BookRow.{BookRow}
 use Rattle.cspf_book_run.specs.declared.book_row_error.BookRowError.{BookRowError}
 use Rattle.cspf_book_run.specs.declared.book_rows.BookRows.{BookRows}
-use Rattle.cspf_book_run.specs.declared.keeper.Keeping.{Keeping}
 use Rattle.cspf_book_run.specs.BookRows.{book_row_of}
 use Rattle.cspf_book_run.specs.BookScript.{BookRunState, IsBookRowAnswered, IsBookRowTaken}
 use Rattle.cspf_book_run.specs.BookSinks.{BookSinkState}
 use Rattle.cspf_book_run.specs.BookStates.{KeepsBook, BookLeads, CountsBookRow}
 use Rattle.cspf_book_run.specs.Kept.{text_of_row}
 use Rattle.cspf_book_run.specs.KeptRuns.{IsRowCut, IsTakenStopped}
-use Rattle.cspf_book_run.specs.Keeping.{IsTextWritten, IsTextCutOff}
+use Rattle.cspf_book_run.specs.Keeping.{KeepSpec, IsCutWith, IsKeptIfNew}
 
--- The text that goes to the writer `keep` for a row that was read as `row`: `kept_of`, if `row` is
--- how the fields are read.
-abbrev pub kept_as : BookRunState → List (List ℕ) → BookRow → BookRunState → List ℕ
-kept_as s fields row t = if t.book.version == s.book.version then [] else text_of_row s fields (Ok row)
-
-module _ {K : Type 0} (contents : K → Option (List ℕ)) where
-  -- The row would be accepted, but the write of its text fails, so it is refused.
-  pub record IsRowFailed (s : BookRunState) (fields : List (List ℕ)) (row : BookRow) (line : List ℕ) (t : BookRunState) (old new : Keeping K) : Type 0 where
+module _ {S : Type 0} (spec : KeepSpec S) where
+  -- The row would be accepted, but its text isn't kept, so it is refused.
+  pub record IsRowFailed (s : BookRunState) (fields : List (List ℕ)) (row : BookRow) (line : List ℕ) (t : BookRunState) (old new : S) : Type 0 where
     pub written : ℕ
     pub lines : List ℕ
     pub next : BookRunState
-    pub going : old.stopped ≡ false
+    pub going : spec.stopped old ≡ false
     pub accepted : IsBookRowTaken s row lines next
-    pub cut_off : IsTextCutOff contents written old (kept_as s fields row next) new
+    pub cut_off : IsCutWith spec s.book next.book written old (text_of_row s fields (Ok row)) new
     pub refused : IsRowCut written s row line t
 
-  -- A row whose fields could be read is answered. Its text is written, or the write fails, or a
-  -- write had failed earlier.
-  abbrev pub IsRowDone : BookRunState → List (List ℕ) → BookRow → List ℕ → BookRunState → Keeping K → Keeping K → Type 0
+  -- A row whose fields could be read is answered. If it makes a new version, its text is kept. Or
+  -- its text isn't kept, or it was stopped earlier.
+  abbrev pub IsRowDone : BookRunState → List (List ℕ) → BookRow → List ℕ → BookRunState → S → S → Type 0
   IsRowDone s fields row line t old new =
-      ((old.stopped ≡ false) × IsBookRowTaken s row line t × IsTextWritten contents old (kept_as s fields row t) new)
-      ⊎ (IsRowFailed s fields row line t old new ⊎ ((old.stopped ≡ true) × IsTakenStopped s row line t × (new ≡ old)))
+      ((spec.stopped old ≡ false) × IsBookRowTaken s row line t × IsKeptIfNew spec s.book t.book old (text_of_row s fields (Ok row)) new)
+      ⊎ (IsRowFailed s fields row line t old new ⊎ ((spec.stopped old ≡ true) × IsTakenStopped s row line t × (new ≡ old)))
 
-  -- Memory is refused while such a row is answered. Nothing is written, or the write of the row's
-  -- text fails and only the line that refuses the row is missing.
-  abbrev pub IsRowLost : List (List ℕ) → BookRow → Rows (BookSinkState K) → Rows (BookSinkState K) → Type 0
+  -- Memory is refused while such a row is answered. Nothing is kept, or the row's text isn't kept
+  -- and only the line that refuses the row is missing.
+  abbrev pub IsRowLost : List (List ℕ) → BookRow → Rows (BookSinkState S) → Rows (BookSinkState S) → Type 0
   IsRowLost fields row old new =
       (s : BookRunState) → KeepsBook old s
       → (new.sink.keeping ≡ old.sink.keeping) ⊎ ((line : List ℕ) × (t : BookRunState) × IsRowFailed s fields row line t old.sink.keeping new.sink.keeping)
 
-  -- Row `place` is answered. For a row that couldn't be read nothing is written.
-  abbrev pub IsAnsweredDone : ℕ → BookRunState → List (List ℕ) → Result BookRow BookRowError → List ℕ → BookRunState → Keeping K → Keeping K → Type 0
+  -- Row `place` is answered. For a row that couldn't be read nothing is kept.
+  abbrev pub IsAnsweredDone : ℕ → BookRunState → List (List ℕ) → Result BookRow BookRowError → List ℕ → BookRunState → S → S → Type 0
   IsAnsweredDone place s fields (Err error) line t old new = IsBookRowAnswered place s (Err error) line t × (new ≡ old)
   IsAnsweredDone place s fields (Ok row) line t old new = IsRowDone s fields row line t old new
 
   -- Memory is refused while a row is answered.
-  abbrev pub IsAnsweredLost : List (List ℕ) → Result BookRow BookRowError → Rows (BookSinkState K) → Rows (BookSinkState K) → Type 0
+  abbrev pub IsAnsweredLost : List (List ℕ) → Result BookRow BookRowError → Rows (BookSinkState S) → Rows (BookSinkState S) → Type 0
   IsAnsweredLost fields (Err error) old new = new.sink.keeping ≡ old.sink.keeping
   IsAnsweredLost fields (Ok row) old new = IsRowLost fields row old new
 
   -- Row `place` is answered, and the code goes from the state `old` to the state `new`.
-  pub record IsBookAnswer (place : ℕ) (old : BookRows K) (fields : List (List ℕ)) (line : List ℕ) (new : BookRows K) : Type 0 where
+  pub record IsBookAnswer (place : ℕ) (old : BookRows S) (fields : List (List ℕ)) (line : List ℕ) (new : BookRows S) : Type 0 where
     pub lead : BookLeads old.rows new.rows (λ s t. IsAnsweredDone place s fields (book_row_of fields) line t old.rows.sink.keeping new.rows.sink.keeping)
     pub counts : CountsBookRow old new
 
   -- Memory is refused at row `place`.
-  abbrev pub IsBookAnswerLost : ℕ → BookRows K → List (List ℕ) → BookRows K → Type 0
+  abbrev pub IsBookAnswerLost : ℕ → BookRows S → List (List ℕ) → BookRows S → Type 0
   IsBookAnswerLost place old fields new = IsAnsweredLost fields (book_row_of fields) old.rows new.rows
 
 -- The line is the last line of a run that ends in the code's state.
-abbrev pub IsBookLast : {K : Type 0} → BookRows K → Bool → List ℕ → Type 0
+abbrev pub IsBookLast : {S : Type 0} → BookRows S → Bool → List ℕ → Type 0
 IsBookLast k too_many line = (s : BookRunState) → KeepsBook k.rows s → line ≡ last_line too_many s.changes

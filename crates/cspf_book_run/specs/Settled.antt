@@ -54,12 +54,12 @@ pub record IsCutSettled (bytes part : List ℕ) (left : ℕ) : Type 0 where
   pub settled : IsSettledPart bytes part
   pub left_out : length bytes ≡ length part + left
 
--- The text is the shortest stream of the book that the settled part of the bytes makes. `left` bytes
+-- The text is the compact stream of the book that the settled part of the bytes makes. `left` bytes
 -- are left out.
 abbrev pub IsTornCompaction : List ℕ → List ℕ → ℕ → Type 0
 IsTornCompaction bytes text left = (part : List ℕ) × IsCutSettled bytes part left × IsCompaction (rows_of part) text
 
--- Why no shortest stream is made of the settled part of the bytes. `left` bytes are left out.
+-- Why no compact stream is made of the settled part of the bytes. `left` bytes are left out.
 abbrev pub IsTornStop : CompactStop → List ℕ → ℕ → Type 0
 IsTornStop (stop.Stream why) bytes left = Unit {0}
 IsTornStop (stop.Refused row line) bytes left = (part : List ℕ) × IsCutSettled bytes part left × IsFirstRefused (rows_of part) row line.items

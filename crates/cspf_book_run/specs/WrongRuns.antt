@@ -79,6 +79,7 @@ book_with batches version left right placements = record {
   changes = [];
   answers = 1;
   refused = 0;
+  skipped = 0;
 }
 
 -- the `over` lines of a link at these priorities, which report too little bandwidth

@@ -7,6 +7,7 @@ ghost use Rattle.csv.specs.Records.{fields_of};
 use crate::book_row::BookRow;
 use crate::book_row_error::{BookRowError, refused_book_row};
 use crate::book_sink::BookSink;
+use crate::keeper::Keeps;
 use crate::line::{TextResult, refused_place, refused_release};
 use crate::placement_line::{
     left_line, refused_held, refused_left, refused_offer, refused_show, show_line,
@@ -19,46 +20,45 @@ use cspf_solve::Summary;
 use cspf_stream::{Answering, Ending, Rows, Step};
 use csv::ByteRecord;
 use std::alloc::{AllocError, Global};
-use std::io::Write;
 
 /// The state of a run between two rows. Only the memory of the book grows with the number of rows.
 #[derive(Drop)]
-pub struct BookRows<K> {
-    /// The book with `keep`, the writer of accepted rows, the open changes, and two counts.
+pub struct BookRows<S> {
+    /// The book with what keeps the texts of accepted rows, the open changes, and two counts.
     /// `answers` counts the answers to `ask`, `place` and `offer` rows together. `refused` counts the
     /// refusals of rows that couldn't be read, of batches, and of rows about placements.
-    rows: Rows<BookSink<K>>,
+    rows: Rows<BookSink<S>>,
     /// How many rows were read.
     read: u64,
 }
 
-impl<K: Write> Answering<()> for BookRows<K> {
+impl<C, S: Keeps<C>> Answering<C> for BookRows<S> {
     type Fault = AllocError;
 
     ghost use Rattle.cspf_book_run.specs.BookStates.{IsBookBefore};
     ghost use Rattle.cspf_book_run.specs.KeptStates.{IsBookAnswer, IsBookAnswerLost};
 
-    ghost answers = { IsBookAnswer K.contents };
+    ghost answers = { IsBookAnswer S.spec };
 
-    ghost fails = { λ fault. IsBookAnswerLost K.contents };
+    ghost fails = { λ fault. IsBookAnswerLost S.spec };
 
     // Each row adds at most 1 to each count of the run.
     ghost may_stand = { IsBookBefore };
 
     fn answer(
         &mut self,
-        _context: &(),
+        context: &C,
         alloc: Global,
         place: u64,
         fields: &ByteRecord,
     ) -> Result<Vec<u8>, AllocError> {
         let row = BookRow::read(alloc, fields)?;
         self.read += 1;
-        self.line_of(alloc, place, fields, row)
+        self.line_of(context, alloc, place, fields, row)
     }
 }
 
-impl<K> Ending for BookRows<K> {
+impl<S> Ending for BookRows<S> {
     ghost use Rattle.cspf_book_run.specs.KeptStates.{IsBookLast};
 
     ghost last = { IsBookLast };
@@ -68,21 +68,21 @@ impl<K> Ending for BookRows<K> {
     }
 }
 
-impl<K> BookRows<K> {
+impl<S> BookRows<S> {
     ghost use Rattle.cspf_model.specs.Changes.{no_links};
     ghost use Rattle.cspf_book_run.specs.BookScript.{BookRunState, book_start, book_summary_of};
     ghost use Rattle.cspf_book_run.specs.BookStates.{KeepsBook, AreBookCounts};
 
     /// The state before the first row: version 0, the empty base, no placements and no open
-    /// changes. `keep` is the writer of accepted rows.
-    pub(crate) fn new(alloc: Global, book: Book, keep: K) -> BookRows<K>
+    /// changes. `keeping` keeps the texts of accepted rows.
+    pub(crate) fn new(alloc: Global, book: Book, keeping: S) -> BookRows<S>
         requires { book ≡ record { base = no_links; version = 0; placements = [] } }
         ensures start { KeepsBook result.rows book_start }
         ensures none { result.read ≡ 0 }
-        ensures keep { result.rows.sink.keeping ≡ record { keep = keep; stopped = false } }
+        ensures keeping { result.rows.sink.keeping ≡ keeping }
     {
         BookRows {
-            rows: Rows::new(alloc, BookSink::new(alloc, book, keep)),
+            rows: Rows::new(alloc, BookSink::new(alloc, book, keeping)),
             read: 0,
         }
     }
@@ -96,7 +96,7 @@ impl<K> BookRows<K> {
         let unended = !too_many && self.rows.changes.count > 0;
         Summary {
             rows: self.read as u32,
-            version: self.rows.sink.book().version(),
+            version: self.rows.sink.named(),
             answers: self.rows.answers as u32,
             refused: self.rows.refused as u32 + u32::from(unended),
             too_many,
@@ -108,13 +108,6 @@ impl<K> BookRows<K> {
         ensures { result.now ≡ self.now.rows.sink.book }
     {
         self.rows.sink.book()
-    }
-
-    /// Whether a write to `keep` has failed.
-    pub(crate) fn has_stopped(&self) -> bool
-        ensures { result ≡ self.now.rows.sink.keeping.stopped }
-    {
-        self.rows.sink.has_stopped()
     }
 
     /// Whether a row was refused.
@@ -131,9 +124,9 @@ impl<K> BookRows<K> {
         self.rows.changes.count > 0
     }
 
-    /// `keep`, the writer of accepted rows, in its state after the last call.
-    pub(crate) fn into_keep(self) -> K
-        ensures { result ≡ self.rows.sink.keeping.keep }
+    /// What keeps the texts of accepted rows, in its state after the last call.
+    pub(crate) fn into_keeping(self) -> S
+        ensures { result ≡ self.rows.sink.keeping }
     {
         let BookRows { rows, read: _ } = self;
         let Rows {
@@ -142,11 +135,11 @@ impl<K> BookRows<K> {
             answers: _,
             refused: _,
         } = rows;
-        sink.into_keep()
+        sink.into_keeping()
     }
 }
 
-impl<K: Write> BookRows<K> {
+impl<S> BookRows<S> {
     ghost use Rattle.std.specs.Prelude.{ℕ, List};
     ghost use Rattle.cspf_book.specs.PlacedRoutes.{ConnectsItsEnds};
     ghost use Rattle.cspf_book_run.specs.declared.book_row.BookRow.TheVariants as book_row;
@@ -156,25 +149,28 @@ impl<K: Write> BookRows<K> {
 
     /// Answers row `place`, counted from 1, and returns the lines of the answer. A change is
     /// answered with no lines. `row` is how the fields are read.
-    fn line_of(
+    fn line_of<C>(
         &mut self,
+        context: &C,
         alloc: Global,
         place: u64,
         fields: &ByteRecord,
         row: Result<BookRow, BookRowError>,
     ) -> TextResult
+    where
+        S: Keeps<C>,
         requires few { CanCountOneMore self.old.rows }
         requires row { IfOk row IsReadable }
         ensures answered { IfOk result (λ line. BookLeads self.old.rows self.new.rows
-            (λ s t. IsAnsweredDone K.contents place s (fields_of fields.now) row line.items t
+            (λ s t. IsAnsweredDone S.spec place s (fields_of fields.now) row line.items t
             self.old.rows.sink.keeping self.new.rows.sink.keeping)) }
-        ensures lost { OnErr result (IsAnsweredLost K.contents (fields_of fields.now) row
+        ensures lost { OnErr result (IsAnsweredLost S.spec (fields_of fields.now) row
             self.old.rows self.new.rows) }
         ensures counts { GrowsByOneAtMost self.old.rows self.new.rows }
         ensures read { self.new.read ≡ self.old.read }
     {
         match row {
-            Ok(row) => self.take_row(alloc, fields, row),
+            Ok(row) => self.take_row(context, alloc, fields, row),
             Err(error) => {
                 let line = refused_book_row(alloc, place, error)?;
                 self.rows.refused += 1;
@@ -184,13 +180,21 @@ impl<K: Write> BookRows<K> {
     }
 
     /// Answers a row whose fields could be read, and returns the lines of the answer.
-    fn take_row(&mut self, alloc: Global, fields: &ByteRecord, row: BookRow) -> TextResult
+    fn take_row<C>(
+        &mut self,
+        context: &C,
+        alloc: Global,
+        fields: &ByteRecord,
+        row: BookRow,
+    ) -> TextResult
+    where
+        S: Keeps<C>,
         requires few { CanCountOneMore self.old.rows }
         requires row { IsReadable row }
         ensures answered { IfOk result (λ line. BookLeads self.old.rows self.new.rows
-            (λ s t. IsRowDone K.contents s (fields_of fields.now) row line.items t
+            (λ s t. IsRowDone S.spec s (fields_of fields.now) row line.items t
             self.old.rows.sink.keeping self.new.rows.sink.keeping)) }
-        ensures lost { OnErr result (IsRowLost K.contents (fields_of fields.now) row
+        ensures lost { OnErr result (IsRowLost S.spec (fields_of fields.now) row
             self.old.rows self.new.rows) }
         ensures counts { GrowsByOneAtMost self.old.rows self.new.rows }
         ensures read { self.new.read ≡ self.old.read }
@@ -198,37 +202,40 @@ impl<K: Write> BookRows<K> {
         // Law: a batch that the table refuses doesn't fit.
         one_refusal();
         match row {
-            BookRow::Base(row) => self.rows.take(&(), alloc, Step::of(&row)),
-            BookRow::Place { request, hold } => self.place(alloc, fields, &request, hold),
-            BookRow::Release { id } => self.release(alloc, fields, id),
-            BookRow::Held { placement } => self.restore(alloc, fields, placement),
-            BookRow::Offer { request, hold } => self.offer(alloc, &request, hold),
-            BookRow::Show { id } => self.show(alloc, id),
-            BookRow::Left { from, local } => self.left(alloc, from, local),
+            BookRow::Base(row) => self.rows.take(context, alloc, Step::of(&row)),
+            BookRow::Place { request, hold } => self.place(context, alloc, fields, &request, hold),
+            BookRow::Release { id } => self.release(context, alloc, fields, id),
+            BookRow::Held { placement } => self.restore(context, alloc, fields, placement),
+            BookRow::Offer { request, hold } => self.offer::<C>(alloc, &request, hold),
+            BookRow::Show { id } => self.show::<C>(alloc, id),
+            BookRow::Left { from, local } => self.left::<C>(alloc, from, local),
         }
     }
 
     /// Places a request with the holding priority `hold`, or refuses the `place` row.
-    fn place(
+    fn place<C>(
         &mut self,
+        context: &C,
         alloc: Global,
         fields: &ByteRecord,
         request: &Request,
         hold: u8,
     ) -> TextResult
+    where
+        S: Keeps<C>,
         requires few { CanCountOneMore self.old.rows }
         requires setup { request.now.setup ≡ 7 }
         requires hold { hold < 8 }
         ensures answered { IfOk result (λ line. BookLeads self.old.rows self.new.rows
-            (λ s t. IsRowDone K.contents s (fields_of fields.now) (book_row.Place request.now hold)
+            (λ s t. IsRowDone S.spec s (fields_of fields.now) (book_row.Place request.now hold)
             line.items t self.old.rows.sink.keeping self.new.rows.sink.keeping)) }
-        ensures lost { OnErr result (IsRowLost K.contents (fields_of fields.now)
+        ensures lost { OnErr result (IsRowLost S.spec (fields_of fields.now)
             (book_row.Place request.now hold) self.old.rows self.new.rows) }
         ensures counts { GrowsByOneAtMost self.old.rows self.new.rows }
         ensures read { self.new.read ≡ self.old.read }
     {
         let text = row_text(alloc, fields)?;
-        let found = self.rows.sink.place(alloc, text, request, hold)?;
+        let found = self.rows.sink.place(context, alloc, text, request, hold)?;
         match found {
             Ok(line) => {
                 self.rows.answers += 1;
@@ -242,18 +249,20 @@ impl<K: Write> BookRows<K> {
     }
 
     /// Releases the placement with this id, or refuses the `release` row.
-    fn release(&mut self, alloc: Global, fields: &ByteRecord, id: u64) -> TextResult
+    fn release<C>(&mut self, context: &C, alloc: Global, fields: &ByteRecord, id: u64) -> TextResult
+    where
+        S: Keeps<C>,
         requires few { CanCountOneMore self.old.rows }
         ensures answered { IfOk result (λ line. BookLeads self.old.rows self.new.rows
-            (λ s t. IsRowDone K.contents s (fields_of fields.now) (book_row.Release id) line.items t
+            (λ s t. IsRowDone S.spec s (fields_of fields.now) (book_row.Release id) line.items t
             self.old.rows.sink.keeping self.new.rows.sink.keeping)) }
-        ensures lost { OnErr result (IsRowLost K.contents (fields_of fields.now)
+        ensures lost { OnErr result (IsRowLost S.spec (fields_of fields.now)
             (book_row.Release id) self.old.rows self.new.rows) }
         ensures counts { GrowsByOneAtMost self.old.rows self.new.rows }
         ensures read { self.new.read ≡ self.old.read }
     {
         let text = row_text(alloc, fields)?;
-        let found = self.rows.sink.release(alloc, text, id)?;
+        let found = self.rows.sink.release(context, alloc, text, id)?;
         match found {
             Ok(line) => Ok(line),
             Err(why) => {
@@ -264,20 +273,28 @@ impl<K: Write> BookRows<K> {
     }
 
     /// Restores a placement, or refuses the `held` row.
-    fn restore(&mut self, alloc: Global, fields: &ByteRecord, placement: Placement) -> TextResult
+    fn restore<C>(
+        &mut self,
+        context: &C,
+        alloc: Global,
+        fields: &ByteRecord,
+        placement: Placement,
+    ) -> TextResult
+    where
+        S: Keeps<C>,
         requires few { CanCountOneMore self.old.rows }
         requires ends { ConnectsItsEnds placement }
         ensures answered { IfOk result (λ line. BookLeads self.old.rows self.new.rows
-            (λ s t. IsRowDone K.contents s (fields_of fields.now) (book_row.Held placement)
+            (λ s t. IsRowDone S.spec s (fields_of fields.now) (book_row.Held placement)
             line.items t self.old.rows.sink.keeping self.new.rows.sink.keeping)) }
-        ensures lost { OnErr result (IsRowLost K.contents (fields_of fields.now)
+        ensures lost { OnErr result (IsRowLost S.spec (fields_of fields.now)
             (book_row.Held placement) self.old.rows self.new.rows) }
         ensures counts { GrowsByOneAtMost self.old.rows self.new.rows }
         ensures read { self.new.read ≡ self.old.read }
     {
         let text = row_text(alloc, fields)?;
         let id = placement.request.id;
-        let found = self.rows.sink.restore(alloc, text, placement)?;
+        let found = self.rows.sink.restore(context, alloc, text, placement)?;
         match found {
             Ok(lines) => Ok(lines),
             Err(why) => {
@@ -289,18 +306,20 @@ impl<K: Write> BookRows<K> {
 
     /// Answers a request with the holding priority `hold` as `place` would, or refuses the `offer`
     /// row. Nothing is placed.
-    fn offer(&mut self, alloc: Global, request: &Request, hold: u8) -> TextResult
+    fn offer<C>(&mut self, alloc: Global, request: &Request, hold: u8) -> TextResult
+    where
+        S: Keeps<C>,
         requires few { CanCountOneMore self.old.rows }
         requires hold { hold < 8 }
         ensures answered { (fields : List (List ℕ)) → IfOk result (λ line.
             BookLeads self.old.rows self.new.rows
-            (λ s t. IsRowDone K.contents s fields (book_row.Offer request.now hold)
+            (λ s t. IsRowDone S.spec s fields (book_row.Offer request.now hold)
             line.items t self.old.rows.sink.keeping self.new.rows.sink.keeping)) }
         ensures lost { OnErr result (self.new.rows.sink ≡ self.old.rows.sink) }
         ensures counts { GrowsByOneAtMost self.old.rows self.new.rows }
         ensures read { self.new.read ≡ self.old.read }
     {
-        let found = self.rows.sink.offer(alloc, request, hold)?;
+        let found = self.rows.sink.offer::<C>(alloc, request, hold)?;
         match found {
             Ok(line) => {
                 self.rows.answers += 1;
@@ -314,19 +333,21 @@ impl<K: Write> BookRows<K> {
     }
 
     /// Shows the placement with this id, or refuses the `show` row.
-    fn show(&mut self, alloc: Global, id: u64) -> TextResult
+    fn show<C>(&mut self, alloc: Global, id: u64) -> TextResult
+    where
+        S: Keeps<C>,
         requires few { CanCountOneMore self.old.rows }
         ensures answered { (fields : List (List ℕ)) → IfOk result (λ line.
             BookLeads self.old.rows self.new.rows
-            (λ s t. IsRowDone K.contents s fields (book_row.Show id)
+            (λ s t. IsRowDone S.spec s fields (book_row.Show id)
             line.items t self.old.rows.sink.keeping self.new.rows.sink.keeping)) }
         ensures lost { OnErr result (self.new.rows.sink ≡ self.old.rows.sink) }
         ensures counts { GrowsByOneAtMost self.old.rows self.new.rows }
         ensures read { self.new.read ≡ self.old.read }
     {
-        let book = self.rows.sink.book();
-        match book.placement(id) {
-            Some(placement) => show_line(alloc, book.version(), placement),
+        let version = self.rows.sink.named();
+        match self.rows.sink.book().placement(id) {
+            Some(placement) => show_line(alloc, version, placement),
             None => {
                 self.rows.refused += 1;
                 refused_show(alloc, id)
@@ -335,19 +356,21 @@ impl<K: Write> BookRows<K> {
     }
 
     /// Shows the figures of the base's link with this key, or refuses the `left` row.
-    fn left(&mut self, alloc: Global, from: Addr, local: Addr) -> TextResult
+    fn left<C>(&mut self, alloc: Global, from: Addr, local: Addr) -> TextResult
+    where
+        S: Keeps<C>,
         requires few { CanCountOneMore self.old.rows }
         ensures answered { (fields : List (List ℕ)) → IfOk result (λ line.
             BookLeads self.old.rows self.new.rows
-            (λ s t. IsRowDone K.contents s fields (book_row.Left from local)
+            (λ s t. IsRowDone S.spec s fields (book_row.Left from local)
             line.items t self.old.rows.sink.keeping self.new.rows.sink.keeping)) }
         ensures lost { OnErr result (self.new.rows.sink ≡ self.old.rows.sink) }
         ensures counts { GrowsByOneAtMost self.old.rows self.new.rows }
         ensures read { self.new.read ≡ self.old.read }
     {
-        let book = self.rows.sink.book();
-        match book.left(from, local) {
-            Some(figures) => left_line(alloc, from, local, book.version(), &figures),
+        let version = self.rows.sink.named();
+        match self.rows.sink.book().left(from, local) {
+            Some(figures) => left_line(alloc, from, local, version, &figures),
             None => {
                 self.rows.refused += 1;
                 refused_left(alloc, from, local)

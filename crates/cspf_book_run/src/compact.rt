@@ -1,4 +1,4 @@
-//! The text of the shortest stream of rows that makes a book: a snapshot of its base, and then the
+//! The text of the compact stream of rows that makes a book: a snapshot of its base, and then the
 //! `held` row of each placement.
 
 ghost use Rattle.std.specs.Prelude.{◌≡◌, IfOk};
@@ -16,7 +16,7 @@ use cspf_rows::batch_text;
 use cspf_snapshot::snapshot;
 use std::alloc::Global;
 
-/// The rows of the shortest stream that makes the base and the placements of a book, each with its
+/// The rows of the compact stream that makes the base and the placements of a book, each with its
 /// line feed. Memory for the whole text is taken at once.
 pub(crate) fn compact_text(alloc: Global, book: &Book) -> TextResult
     ensures { IfOk result (λ text. IsCompact book.now.base book.now.placements text.items) }

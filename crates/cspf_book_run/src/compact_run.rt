@@ -1,7 +1,7 @@
-//! The run of `routed book --compact`. It reads a stream of rows, and makes the shortest stream that
-//! makes the same book.
+//! The run of `routed book --compact`. It reads a stream of rows, and makes the rows of a snapshot
+//! and of held placements that make the same book.
 
-ghost use Rattle.std.specs.Prelude.{◌≡◌, false, IfOk, IfErr, IfSome, ◌++◌};
+ghost use Rattle.std.specs.Prelude.{◌≡◌, IfOk, IfErr, IfSome, ◌++◌};
 ghost use Rattle.cspf_rows.specs.Records.{rows_of, rows_left, IsPlain};
 ghost use Rattle.cspf_book_run.specs.BookScript.{book_start};
 ghost use Rattle.cspf_book_run.specs.BookStates.{KeepsBook, IsBookBefore};
@@ -12,6 +12,7 @@ ghost use Rattle.cspf_book_run.specs.Settled.{IsSettledPart, IsTornCompaction, I
 use crate::book_rows::BookRows;
 use crate::compact::compact_text;
 use crate::compact_stop::CompactStop;
+use crate::keeper::KeepsNothing;
 use crate::laws::compacts_make_books;
 use crate::ranges::placements_in_range;
 use crate::settled::settled_part;
@@ -21,12 +22,12 @@ use cspf_stream::{Answering, Ending, StreamError, answer_rows};
 use csv::{ByteRecord, Reader};
 use std::alloc::Global;
 use std::io;
-use std::io::{ErrorKind, Read, Sink};
+use std::io::{ErrorKind, Read};
 
-/// The state of the run between two rows. What a book would write is written nowhere.
+/// The state of the run between two rows. The texts of accepted rows are kept nowhere.
 #[derive(Drop)]
 pub struct CompactRows {
-    rows: BookRows<Sink>,
+    rows: BookRows<KeepsNothing>,
 }
 
 impl Answering<()> for CompactRows {
@@ -48,9 +49,6 @@ impl Answering<()> for CompactRows {
         fields: &ByteRecord,
     ) -> Result<Vec<u8>, CompactStop> {
         let line = self.rows.answer(context, alloc, place, fields)?;
-        if self.rows.has_stopped() {
-            return Err(CompactStop::Stream(StreamError::Write));
-        }
         if self.rows.has_refused() {
             return Err(CompactStop::Refused { row: place, line });
         }
@@ -58,7 +56,7 @@ impl Answering<()> for CompactRows {
     }
 }
 
-/// Reads a stream of rows as `run_book` does, and returns the shortest stream that makes the same
+/// Reads a stream of rows as `run_book` does, and returns the compact stream that makes the same
 /// book: a snapshot of the base, and then the `held` row of each placement, in their order. Any
 /// number of rows is read. `IsCompaction` defines the text.
 ///
@@ -73,7 +71,7 @@ pub fn run_compact<R: Read + Drop>(alloc: Global, reader: R) -> Result<Vec<u8>, 
 {
     let book = Book::new(alloc)?;
     let mut compact = CompactRows {
-        rows: BookRows::new(alloc, book, io::sink()),
+        rows: BookRows::new(alloc, book, KeepsNothing),
     };
     let mut rows = open_records(alloc, reader);
     compact_all(alloc, &mut rows, &mut compact)
@@ -107,7 +105,7 @@ fn read_error(error: io::Error) -> StreamError {
     }
 }
 
-/// The shortest stream of the settled part of some bytes, and how many bytes are left out.
+/// The compact stream of the settled part of some bytes, and how many bytes are left out.
 fn compact_settled(alloc: Global, bytes: &[u8]) -> (Result<Vec<u8>, CompactStop>, usize)
     ensures made { IfOk result.0 (λ text. IsTornCompaction bytes.now text.items result.1) }
     ensures stopped { IfErr result.0 (λ why. IsTornStop why bytes.now result.1) }
@@ -117,7 +115,7 @@ fn compact_settled(alloc: Global, bytes: &[u8]) -> (Result<Vec<u8>, CompactStop>
     (run_compact(alloc, part), left)
 }
 
-/// Answers all rows that the reader hasn't read yet, and makes the shortest stream.
+/// Answers all rows that the reader hasn't read yet, and makes the compact stream.
 fn compact_all<R: Read>(
     alloc: Global,
     rows: &mut Reader<R>,
@@ -125,7 +123,6 @@ fn compact_all<R: Read>(
 ) -> Result<Vec<u8>, CompactStop>
     requires plain { IsPlain rows.old }
     requires fresh { KeepsBook compact.old.rows.rows book_start }
-    requires going { compact.old.rows.rows.sink.keeping.stopped ≡ false }
     requires first { IsBookBefore 1 compact.old.rows }
     ensures made { IfOk result (λ text. IfSome (rows_left R.remaining rows.old) (λ all.
         IsCompaction all text.items)) }
@@ -138,12 +135,12 @@ fn compact_all<R: Read>(
     }
 }
 
-/// The shortest stream of the book after all rows, or the line that says how many changes are open.
+/// The compact stream of the book after all rows, or the line that says how many changes are open.
 fn compact_book(alloc: Global, compact: &CompactRows) -> Result<Vec<u8>, CompactStop>
     ensures made { IfOk result (λ text. IsBookCompact compact.now text.items) }
     ensures stopped { IfErr result (IsOpenStop compact.now) }
 {
-    // Law: the shortest stream of a book makes its base and its placements.
+    // Law: the compact stream of a book makes its base and its placements.
     compacts_make_books();
     if compact.rows.has_open() {
         let line = compact.rows.last_line(alloc, false)?;

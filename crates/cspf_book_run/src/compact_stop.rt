@@ -1,4 +1,4 @@
-//! Why no shortest stream is made of a stream of rows.
+//! Why no compact stream is made of a stream of rows.
 
 ghost use Rattle.std.specs.Prelude.{◌≡◌};
 ghost use Rattle.cspf_stream.specs.declared.error.StreamError.TheVariants as stream_error;
@@ -7,7 +7,7 @@ ghost use Rattle.cspf_book_run.specs.declared.compact_stop.CompactStop.TheVarian
 use cspf_stream::{StreamError, StreamStop};
 use std::alloc::AllocError;
 
-/// Why no shortest stream is made of a stream of rows.
+/// Why no compact stream is made of a stream of rows.
 #[derive(Drop)]
 pub enum CompactStop {
     /// Memory was refused, or a read failed.

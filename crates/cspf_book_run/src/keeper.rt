@@ -1,9 +1,9 @@
-//! What takes the versions of a run's book. The text of the row that makes a version is written to
-//! `keep`, the writer of accepted rows, before the book has the version.
+//! What takes the versions of a run's book. The text of the row that makes a version is kept before
+//! the book has the version.
 
 ghost use Rattle.std.specs.Prelude.{◌≡◌, false, IfOk, IfErr, OnOk};
 ghost use Rattle.cspf_model.specs.Outcome.{answer_of};
-ghost use Rattle.cspf_book_run.specs.Keeping.{IsTextWritten, IsUnkept};
+ghost use Rattle.cspf_book_run.specs.Keeping.{KeepSpec, IsUnkept};
 ghost use Rattle.cspf_book_run.specs.declared.keeper.Unkept.TheVariants as unkept;
 
 use crate::line::{TextResult, place_line};
@@ -14,14 +14,35 @@ use std::alloc::{AllocError, Global};
 use std::io::Write;
 use std::mem;
 
+/// Keeps the text of each row that makes a version of a book, before the book has the version.
+/// `context` is a value that is needed to keep a text, such as the handle of a runtime.
+pub trait Keeps<C> {
+    /// Whether it is stopped, which texts it keeps, and how it fails to keep a text.
+    ghost spec: { KeepSpec Self };
+
+    /// Whether it is stopped, so that it keeps no more texts.
+    fn is_stopped(&self) -> bool
+        ensures { result ≡ spec.stopped self.now };
+
+    /// Keeps the text of a row. `batch` is the batch of the row's version: it makes the effective
+    /// database of this version from the effective database of the version before.
+    fn keep(&mut self, context: &C, alloc: Global, text: &[u8], batch: &Batch) -> Result<(), Unkept>
+        ensures kept { OnOk result (spec.keeps self.old text.now batch.now self.new) }
+        ensures unkept { IfErr result (λ why. IsUnkept spec self.old text.now batch.now why self.new) };
+}
+
 /// The writer `keep`, and whether a write to it has failed.
 #[derive(Drop)]
 pub struct Keeping<K> {
-    pub(crate) keep: K,
-    pub(crate) stopped: bool,
+    keep: K,
+    stopped: bool,
 }
 
-/// Why the text of a row isn't written whole to `keep`.
+/// Keeps no text, and never fails.
+#[derive(Clone, Copy, Debug)]
+pub struct KeepsNothing;
+
+/// Why the text of a row isn't kept.
 #[derive(Clone, Copy, Debug, PartialEq, Eq)]
 pub enum Unkept {
     /// Memory was refused before the write.
@@ -41,67 +62,136 @@ impl From<AllocError> for Unkept {
     }
 }
 
-/// Takes the versions of a run's book, and writes the text of the row that makes each of them.
+impl<C, K: Write> Keeps<C> for Keeping<K> {
+    ghost use Rattle.cspf_book_run.specs.Keeping.{writer_spec};
+
+    ghost spec = { writer_spec K.contents };
+
+    fn is_stopped(&self) -> bool {
+        self.stopped
+    }
+
+    fn keep(
+        &mut self,
+        _context: &C,
+        _alloc: Global,
+        text: &[u8],
+        _batch: &Batch,
+    ) -> Result<(), Unkept> {
+        match put_all(&mut self.keep, text) {
+            Ok(()) => Ok(()),
+            Err(written) => {
+                self.stopped = true;
+                Err(Unkept::Failed { written })
+            }
+        }
+    }
+}
+
+impl<K> Keeping<K> {
+    /// The writer `keep`, before a write to it.
+    pub(crate) fn new(keep: K) -> Keeping<K>
+        ensures { result ≡ record { keep = keep; stopped = false } }
+    {
+        Keeping {
+            keep,
+            stopped: false,
+        }
+    }
+
+    /// The writer `keep`, in its state after the last write.
+    pub(crate) fn into_keep(self) -> K
+        ensures { result ≡ self.keep }
+    {
+        let Keeping { keep, stopped: _ } = self;
+        keep
+    }
+}
+
+impl<C> Keeps<C> for KeepsNothing {
+    ghost use Rattle.cspf_book_run.specs.Keeping.{nothing_spec};
+
+    ghost spec = { nothing_spec };
+
+    fn is_stopped(&self) -> bool {
+        false
+    }
+
+    fn keep(
+        &mut self,
+        _context: &C,
+        _alloc: Global,
+        _text: &[u8],
+        _batch: &Batch,
+    ) -> Result<(), Unkept> {
+        Ok(())
+    }
+}
+
+/// Takes the versions of a run's book, and keeps the text of the row that makes each of them.
 #[derive(Drop)]
-pub struct Keeper<K> {
-    pub(crate) keeping: Keeping<K>,
+pub struct Keeper<S> {
+    /// What keeps the texts.
+    pub(crate) keeping: S,
     /// The text of the row that is answered.
     pub(crate) text: Vec<u8>,
     /// The id of the request, if a `place` row is answered.
     pub(crate) id: u64,
-    /// The line of the last request that was placed. It is made before its row is written.
+    /// The number by which the line of a `place` row names the version that its route makes.
+    pub(crate) named: u32,
+    /// The line of the last request that was placed. It is made before its row is kept.
     pub(crate) line: Vec<u8>,
 }
 
-impl<K: Write> Taker<()> for Keeper<K> {
+impl<C, S: Keeps<C>> Taker<C> for Keeper<S> {
     type Refusal = Unkept;
 
     ghost use Rattle.cspf_book_run.specs.BookLines.{IsPlaceReply};
 
-    ghost takes = { λ before b after. IsTextWritten K.contents before.keeping before.text.items after.keeping };
+    ghost takes = { λ before b after. S.spec.keeps before.keeping before.text.items b after.keeping };
 
-    ghost places = { λ before b answer after. IsTextWritten K.contents before.keeping before.text.items after.keeping
-        × IsPlaceReply before.id b.number answer after.line.items };
+    ghost places = { λ before b answer after. S.spec.keeps before.keeping before.text.items b after.keeping
+        × IsPlaceReply before.id before.named answer after.line.items };
 
-    ghost refuses = { λ before b why after. IsUnkept K.contents before.keeping before.text.items why after.keeping };
+    ghost refuses = { λ before b why after. IsUnkept S.spec before.keeping before.text.items b why after.keeping };
 
-    fn take(&mut self, _context: &(), _alloc: Global, _batch: &Batch) -> Result<(), Unkept> {
-        self.write()
+    fn take(&mut self, context: &C, alloc: Global, batch: &Batch) -> Result<(), Unkept> {
+        self.keeping
+            .keep(context, alloc, self.text.as_slice(), batch)
     }
 
     fn take_placing(
         &mut self,
-        _context: &(),
+        context: &C,
         alloc: Global,
         batch: &Batch,
         outcome: &Outcome,
     ) -> Result<(), Unkept> {
-        self.line = place_line(alloc, self.id, batch.number, outcome)?;
-        self.write()
+        self.line = place_line(alloc, self.id, self.named, outcome)?;
+        self.keeping
+            .keep(context, alloc, self.text.as_slice(), batch)
     }
 }
 
-impl<K> Keeper<K> {
+impl<S> Keeper<S> {
     ghost use Rattle.std.specs.Prelude.{OnErr};
     ghost use Rattle.cspf_book_run.specs.Keeping.{IsLineOf, IsUnrouted};
 
     /// The keeper before the first row.
-    pub(crate) fn new(alloc: Global, keep: K) -> Keeper<K>
-        ensures { result.keeping ≡ record { keep = keep; stopped = false } }
+    pub(crate) fn new(alloc: Global, keeping: S) -> Keeper<S>
+        ensures { result.keeping ≡ keeping }
     {
         Keeper {
-            keeping: Keeping {
-                keep,
-                stopped: false,
-            },
+            keeping,
             text: Vec::new(alloc),
             id: 0,
+            named: 0,
             line: Vec::new(alloc),
         }
     }
 
     /// The line of a `place` row with this outcome, at this version. If the outcome is a route, the
-    /// line was made before the row was written.
+    /// line was made before the row was kept.
     pub(crate) fn line_of(&mut self, alloc: Global, version: u32, outcome: &Outcome) -> TextResult
         ensures line { IfOk result (λ line. IsLineOf self.old.line.items self.old.id version
             (answer_of outcome.now) line.items) }
@@ -114,36 +204,17 @@ impl<K> Keeper<K> {
         }
     }
 
-    /// `keep`, the writer of accepted rows, in its state after the last call.
-    pub(crate) fn into_keep(self) -> K
-        ensures { result ≡ self.keeping.keep }
+    /// What keeps the texts, in its state after the last row.
+    pub(crate) fn into_keeping(self) -> S
+        ensures { result ≡ self.keeping }
     {
         let Keeper {
             keeping,
             text: _,
             id: _,
+            named: _,
             line: _,
         } = self;
-        let Keeping { keep, stopped: _ } = keeping;
-        keep
-    }
-}
-
-impl<K: Write> Keeper<K> {
-    /// Writes the row's text. If a write fails, no later row may be written.
-    fn write(&mut self) -> Result<(), Unkept>
-        ensures whole { OnOk result (IsTextWritten K.contents self.old.keeping self.old.text.items
-            self.new.keeping) }
-        ensures part { IfErr result (λ why. IsUnkept K.contents self.old.keeping
-            self.old.text.items why self.new.keeping) }
-        ensures line { self.new.line ≡ self.old.line }
-    {
-        match put_all(&mut self.keeping.keep, self.text.as_slice()) {
-            Ok(()) => Ok(()),
-            Err(written) => {
-                self.keeping.stopped = true;
-                Err(Unkept::Failed { written })
-            }
-        }
+        keeping
     }
 }

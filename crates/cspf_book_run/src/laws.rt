@@ -96,7 +96,7 @@ pub fn kept_is_the_book()
     masks_are_spelled();
 }
 
-/// Law: the shortest stream of a book makes its base and its placements.
+/// Law: the compact stream of a book makes its base and its placements.
 pub fn compacts_make_books()
     ensures { CompactsMakeBooks }
 {

@@ -12,6 +12,7 @@ ghost use Rattle.cspf_book_run.specs.BookOutput.{IsBookOutputAtError};
 ghost use Rattle.cspf_book_run.specs.BookStates.{KeepsBook, IsBookBefore};
 
 use crate::book_rows::BookRows;
+use crate::keeper::Keeping;
 use cspf_book::Book;
 use cspf_rows::{MOST_ROWS, open_records};
 use cspf_solve::{SolveError, Summary};
@@ -56,10 +57,10 @@ pub fn run_book<R: Read + Drop, W: Write, K: Write>(
 {
     match Book::new(alloc) {
         Ok(book) => {
-            let mut book = BookRows::new(alloc, book, keep);
+            let mut book = BookRows::new(alloc, book, Keeping::new(keep));
             let mut rows = open_records(alloc, reader);
             let ran = answer_all(alloc, &mut rows, &mut book, writer);
-            (ran, book.into_keep())
+            (ran, book.into_keeping().into_keep())
         }
         Err(_refused) => (Err(SolveError::Memory), keep),
     }
@@ -69,7 +70,7 @@ pub fn run_book<R: Read + Drop, W: Write, K: Write>(
 fn answer_all<R: Read, W: Write, K: Write>(
     alloc: Global,
     rows: &mut Reader<R>,
-    book: &mut BookRows<K>,
+    book: &mut BookRows<Keeping<K>>,
     writer: &mut W,
 ) -> Result<Summary, SolveError>
     requires plain { IsPlain rows.old }

@@ -74,7 +74,7 @@ batch, the row is refused by keep W, and each later end, place, held, offer and 
 other rows are answered on. The W bytes may stay at the end of the file. Before it is read, take out what
 follows its last whole line that begins with end, place, held or release, or use --accept-torn.
 
-With --compact standard output has the shortest rows that make the same book, and nothing before them: a
+With --compact standard output has few rows that make the same book, and nothing before them: a
 snapshot of the base (routed snapshot --help) in at most 5 batches, then a held row for each placement.
 Versions and the numbers of batches begin anew there. Any number of rows is read, so a book goes on day
 after day:
@@ -100,7 +100,7 @@ and how many bytes are left out.";
 
 /// Answers the rows of standard input on standard output. With `--keep` the accepted rows are
 /// written to a new file. The lines that were written before a fault remain. With `--compact` the
-/// shortest rows that make the same book are written.
+/// rows of a snapshot and `held` rows that make the same book are written.
 pub(crate) fn answer(call: &Call<'_, '_>) -> Ran {
     if call.has(COMPACT) {
         write_compact(call)
@@ -137,7 +137,7 @@ fn answer_rows<K: Write>(rt: &HostRuntime, keep: &mut Noted<K>) -> Ran {
     }
 }
 
-/// Writes the shortest rows that make the book of standard input. If a row is refused or changes are
+/// Writes few rows that make the book of standard input. If a row is refused or changes are
 /// open at the end, writes the line that says so.
 fn write_compact(call: &Call<'_, '_>) -> Ran {
     let mut reader = Noted::new(INPUT, call.rt.reader());
@@ -155,7 +155,7 @@ fn write_compact(call: &Call<'_, '_>) -> Ran {
     }
 }
 
-/// The shortest rows that make the book of standard input. With `--accept-torn` the end of the input
+/// The rows that make the book of standard input. With `--accept-torn` the end of the input
 /// may be torn, and with `--explain` a line says how much is left out.
 fn compacted<R: Read + Drop>(call: &Call<'_, '_>, reader: R) -> Result<Vec<u8>, CompactStop> {
     if !call.has(ACCEPT_TORN) {

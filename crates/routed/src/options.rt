@@ -24,7 +24,7 @@ pub const REPLIES: &str = "replies";
 /// The option that gives the path of the file of the rows that `book` accepts.
 pub const KEEP: &str = "keep";
 
-/// The flag with which `book` writes the shortest stream that makes the same book.
+/// The flag with which `book` writes the compact stream that makes the same book.
 pub const COMPACT: &str = "compact";
 
 /// The flag to skip the rows after the last whole batch. In `book`, it also skips what follows the
@@ -77,7 +77,7 @@ pub enum CommandOption {
     Replies,
     /// The new file of the accepted rows.
     Keep,
-    /// Whether the shortest stream of a book is written.
+    /// Whether the compact stream of a book is written.
     Compact,
     /// Whether to skip what follows the last whole batch, or the last whole row about a placement, of
     /// a book.
@@ -139,8 +139,7 @@ impl CommandOption {
             CommandOption::Requests => "The file of requests",
             CommandOption::Replies => "The file of replies",
             CommandOption::Keep => "The file to make of the rows that are accepted",
-            CommandOption::Compact =>
-                "Write the shortest rows that make the same book, and no other line",
+            CommandOption::Compact => "Write few rows that make the same book, and no other line",
             CommandOption::AcceptTornBook => {
                 "Leave out what follows the last whole end, place, release or held row; with --compact"
             }

@@ -6,7 +6,7 @@ pub returns-in-Err-clause-stopped : goal.returns-in-Err-clause-stopped
 returns-in-Err-clause-stopped g c = halted_at_start (g.R.Read.remaining c.args.reader) (g.W.Write.contents c.args.writer.now) (g.K.Write.contents c.args.keep)
 
 pub returns-in-Ok-clause-whole : goal.returns-in-Ok-clause-whole
-returns-in-Ok-clause-whole g c = rw c.into_keep.ensures (ok_of_rows _ _ _ _ _ c.open_records-rows.ensures.rows (rw c.new-book.ensures.keep at c.answer_all-ran.ensures.whole))
+returns-in-Ok-clause-whole g c = rw (c.into_keep.ensures, c.into_keeping.ensures) (ok_of_rows _ _ _ _ _ c.open_records-rows.ensures.rows (rw (c.new-book.ensures.keeping, c.new-in-Ok.ensures) at c.answer_all-ran.ensures.whole))
 
 pub returns-in-Ok-clause-stopped : goal.returns-in-Ok-clause-stopped
-returns-in-Ok-clause-stopped g c = rw c.into_keep.ensures (err_of_rows _ _ _ _ _ c.open_records-rows.ensures.rows (rw c.new-book.ensures.keep at c.answer_all-ran.ensures.stopped))
+returns-in-Ok-clause-stopped g c = rw (c.into_keep.ensures, c.into_keeping.ensures) (err_of_rows _ _ _ _ _ c.open_records-rows.ensures.rows (rw (c.new-book.ensures.keeping, c.new-in-Ok.ensures) at c.answer_all-ran.ensures.stopped))

@@ -6,12 +6,12 @@ use Rattle.cspf_book_run.proofs.book_rows.BookRows.left.Goals as goal
 pub returns-in-Some-clause-answered : goal.returns-in-Some-clause-answered
 returns-in-Some-clause-answered g c = λ fields.
     IfOk-weaker c.left_line.result _ _
-    (λ line is. left_done g.K.Write.contents fields c.args.self.now.rows _ refl refl c.args.from c.args.local line.items refl refl c.in-Some.figures c.version.result
-    (rw (c.in-Some.is, c.book-book.ensures) at c.left.ensures) (rw c.book-book.ensures at c.version.ensures) is)
+    (λ line is. left_done g.S.Keeps.spec fields c.args.self.now.rows _ refl refl c.args.from c.args.local line.items refl refl c.in-Some.figures c.named-version.result
+    (rw (c.in-Some.is, c.book.ensures) at c.left.ensures) c.named-version.ensures is)
     c.left_line.ensures
 
 pub returns-in-None-clause-answered : goal.returns-in-None-clause-answered
 returns-in-None-clause-answered g c = λ fields.
     IfOk-weaker c.refused_left.result _ _
-    (λ line is. left_refused g.K.Write.contents fields c.args.self.now.rows _ refl refl c.args.from c.args.local line.items refl refl (rw (c.in-None.is, c.book-book.ensures) at c.left.ensures) is)
+    (λ line is. left_refused g.S.Keeps.spec fields c.args.self.now.rows _ refl refl c.args.from c.args.local line.items refl refl (rw (c.in-None.is, c.book.ensures) at c.left.ensures) is)
     c.refused_left.ensures

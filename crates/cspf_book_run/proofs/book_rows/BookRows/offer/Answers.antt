@@ -5,12 +5,12 @@ use Rattle.cspf_book_run.proofs.book_rows.BookRows.offer.Goals as goal
 
 pub returns-in-Ok-clause-answered : goal.returns-in-Ok-clause-answered
 returns-in-Ok-clause-answered g c = λ fields.
-    offer_done g.K.Write.contents fields c.args.self.now.rows _ c.in_ok-found.ensures.same refl c.args.request.now c.args.hold c.in-Ok.line.items
+    offer_done g.S.Keeps.spec fields c.args.self.now.rows _ c.in_ok-found.ensures.same refl c.args.request.now c.args.hold c.in-Ok.line.items
     (rw c.in-Ok.is at c.in_ok-found.ensures.answered) (rw c.in-Ok.is at c.in_ok-found.ensures.going) refl refl
 
 pub returns-in-Err-clause-answered : goal.returns-in-Err-clause-answered
 returns-in-Err-clause-answered g c = λ fields.
     IfOk-weaker c.refused_offer.result _ _
-    (λ line is. offer_refused g.K.Write.contents fields c.args.self.now.rows _ c.in_ok-found.ensures.same refl refl refl c.args.request.now c.args.hold c.in-Err.why line.items
+    (λ line is. offer_refused g.S.Keeps.spec fields c.args.self.now.rows _ c.in_ok-found.ensures.same refl refl refl c.args.request.now c.args.hold c.in-Err.why line.items
     (rw c.in-Err.is at c.in_ok-found.ensures.refused) is)
     c.refused_offer.ensures

@@ -6,12 +6,12 @@ use Rattle.cspf_book_run.proofs.book_rows.BookRows.show.Goals as goal
 pub returns-in-Some-clause-answered : goal.returns-in-Some-clause-answered
 returns-in-Some-clause-answered g c = λ fields.
     IfOk-weaker c.show_line.result _ _
-    (λ line is. show_done g.K.Write.contents fields c.args.self.now.rows _ refl refl c.args.id line.items refl refl c.in-Some.placement.now c.version.result
-    (rw (c.in-Some.is, c.book-book.ensures) at c.placement.ensures) (rw c.book-book.ensures at c.version.ensures) is)
+    (λ line is. show_done g.S.Keeps.spec fields c.args.self.now.rows _ refl refl c.args.id line.items refl refl c.in-Some.placement.now c.named-version.result
+    (rw (c.in-Some.is, c.book.ensures) at c.placement.ensures) c.named-version.ensures is)
     c.show_line.ensures
 
 pub returns-in-None-clause-answered : goal.returns-in-None-clause-answered
 returns-in-None-clause-answered g c = λ fields.
     IfOk-weaker c.refused_show.result _ _
-    (λ line is. show_refused g.K.Write.contents fields c.args.self.now.rows _ refl refl c.args.id line.items refl refl (rw (c.in-None.is, c.book-book.ensures) at c.placement.ensures) is)
+    (λ line is. show_refused g.S.Keeps.spec fields c.args.self.now.rows _ refl refl c.args.id line.items refl refl (rw (c.in-None.is, c.book.ensures) at c.placement.ensures) is)
     c.refused_show.ensures

@@ -9,14 +9,14 @@ pub returns-in-Base-clause-answered : goal.returns-in-Base-clause-answered
 returns-in-Base-clause-answered g c =
     rw c.in-Base.is
     (IfOk-weaker c.take.result _ _
-    (λ line lead. base_row g.K.Write.contents c.one_refusal.ensures.unfit c.args.self.now.rows c.take.new.self (fields_of c.args.fields.now) c.in-Base.row line.items lead)
+    (λ line lead. base_row g.S.Keeps.spec c.one_refusal.ensures.unfit c.args.self.now.rows c.take.new.self (fields_of c.args.fields.now) c.in-Base.row line.items lead)
     (rw c.of.ensures at c.take.ensures.answered))
 
 pub returns-in-Base-clause-lost : goal.returns-in-Base-clause-lost
 returns-in-Base-clause-lost g c =
     rw c.in-Base.is
     (on_err_weaker c.take.result
-    (λ lead. base_lost g.K.Write.contents c.one_refusal.ensures.unfit c.args.self.now.rows c.take.new.self (fields_of c.args.fields.now) c.in-Base.row lead)
+    (λ lead. base_lost g.S.Keeps.spec c.one_refusal.ensures.unfit c.args.self.now.rows c.take.new.self (fields_of c.args.fields.now) c.in-Base.row lead)
     (rw c.of.ensures at c.take.ensures.failed))
 
 pub returns-in-Place-clause-answered : goal.returns-in-Place-clause-answered
@@ -41,16 +41,16 @@ pub returns-in-Offer-clause-answered : goal.returns-in-Offer-clause-answered
 returns-in-Offer-clause-answered g c = rw c.in-Offer.is (c.offer.ensures.answered (fields_of c.args.fields.now))
 
 pub returns-in-Offer-clause-lost : goal.returns-in-Offer-clause-lost
-returns-in-Offer-clause-lost g c = rw c.in-Offer.is (on_err_weaker c.offer.result (λ same s kept. inl (ap (λ (x : BookSinkState g.row.K.Denot). x.keeping) same)) c.offer.ensures.lost)
+returns-in-Offer-clause-lost g c = rw c.in-Offer.is (on_err_weaker c.offer.result (λ same s kept. inl (ap (λ (x : BookSinkState g.row.S.Denot). x.keeping) same)) c.offer.ensures.lost)
 
 pub returns-in-Show-clause-answered : goal.returns-in-Show-clause-answered
 returns-in-Show-clause-answered g c = rw c.in-Show.is (c.show.ensures.answered (fields_of c.args.fields.now))
 
 pub returns-in-Show-clause-lost : goal.returns-in-Show-clause-lost
-returns-in-Show-clause-lost g c = rw c.in-Show.is (on_err_weaker c.show.result (λ same s kept. inl (ap (λ (x : BookSinkState g.row.K.Denot). x.keeping) same)) c.show.ensures.lost)
+returns-in-Show-clause-lost g c = rw c.in-Show.is (on_err_weaker c.show.result (λ same s kept. inl (ap (λ (x : BookSinkState g.row.S.Denot). x.keeping) same)) c.show.ensures.lost)
 
 pub returns-in-Left-clause-answered : goal.returns-in-Left-clause-answered
 returns-in-Left-clause-answered g c = rw c.in-Left.is (c.left.ensures.answered (fields_of c.args.fields.now))
 
 pub returns-in-Left-clause-lost : goal.returns-in-Left-clause-lost
-returns-in-Left-clause-lost g c = rw c.in-Left.is (on_err_weaker c.left.result (λ same s kept. inl (ap (λ (x : BookSinkState g.row.K.Denot). x.keeping) same)) c.left.ensures.lost)
+returns-in-Left-clause-lost g c = rw c.in-Left.is (on_err_weaker c.left.result (λ same s kept. inl (ap (λ (x : BookSinkState g.row.S.Denot). x.keeping) same)) c.left.ensures.lost)

@@ -9,7 +9,7 @@ returns-then-has_refused-clause-failed c = (
   record {
     lead = λ s keeps.
         let led = c.in_ok-line.ensures.answered.lead s keeps in
-        (led.0, led.1, unstopped _ _ s _ _ led.0 _ _ c.requires.state.going (sym c.if-has_stopped.ensures) led.2);
+        (led.0, led.1, unstopped _ s _ _ led.0 _ _ led.2);
     some = ltb-true 0 _ (sym c.if-has_refused.ensures);
   },
 )
@@ -19,6 +19,6 @@ returns-clause-answered c = record {
   quiet = c.new.ensures.items;
   lead = λ s keeps.
       let led = c.in_ok-line.ensures.answered.lead s keeps in
-      (led.0, led.1, (c.in_ok-line.line.items, unstopped _ _ s _ _ led.0 _ _ c.requires.state.going (sym c.if-has_stopped.ensures) led.2));
+      (led.0, led.1, (c.in_ok-line.line.items, unstopped _ s _ _ led.0 _ _ led.2));
   none = omega (arith, ltb-false 0 _ (sym c.if-has_refused.ensures));
 }

@@ -1,7 +1,7 @@
 use Rattle.std.proofs.lemmas.Result.{IfOk-weaker}
 use Rattle.csv.specs.Records.{fields_of}
 use Rattle.cspf_book_run.proofs.BookRowLemmas.{readable_row}
-use Rattle.cspf_book_run.proofs.book_rows.BookRowsAnsweringUnit.answer.Goals as goal
+use Rattle.cspf_book_run.proofs.book_rows.BookRowsAnswering.answer.Goals as goal
 
 pub line_of-requires-clause-row : goal.line_of-requires-clause-row
 line_of-requires-clause-row g c = rw c.in_ok-row.ensures (readable_row (fields_of c.args.fields.now))
