@@ -12,5 +12,6 @@ pub mod StepsOfRun
 pub mod UpdatesSteps
 pub mod UpdatesStream
 pub mod Pairs
+pub mod PublishingSteps
 pub mod ServedSteps
 pub mod FreshLines

@@ -1,14 +1,14 @@
 -- The clients of a run: before their threads run, after their rows are answered, and their results.
-use Rattle.std.proofs.Common.{◌≡◌, ◌+◌, ◌-◌, ◌^◌, ◌<◌, ◌⊎◌, ℕ, suc, min, false, Option, List, [], ◌∷◌, ◌++◌, All, length, Result, Err, inr, refl, sym, ap, subst, ◌∙◌, arith, rules}
-use Rattle.std.proofs.lemmas.Grind.{common_steps}
+use Rattle.std.proofs.Common.{◌≡◌, ◌+◌, ◌-◌, ◌^◌, ◌<◌, ◌⊎◌, ℕ, suc, min, false, Option, List, [], ◌∷◌, ◌++◌, All, length, Result, Ok, Err, inl, inr, refl, sym, ap, subst, ◌∙◌, arith, rules}
 use Rattle.std.specs.List.{AllZip}
 use Rattle.std.proofs.lemmas.List.Elements.{All-cons, All-head, All-nil, All-tail}
 use Rattle.logbook.specs.Pages.{Book}
 use Rattle.cspf_model.specs.Numbered.{NumberedChanges}
+use Rattle.cspf_model.specs.declared.batch.Change.{Change}
 use Rattle.cspf_publish.specs.PublisherStates.{PublisherState}
 use Rattle.cspf_client.specs.declared.client.Client.{Client}
 use Rattle.cspf_client.specs.declared.client.ServedClient.{ServedClient}
-use Rattle.cspf_publish.specs.JournalSteps.{KnownSteps, count_of}
+use Rattle.cspf_publish.specs.JournalSteps.{KnownSteps}
 use Rattle.cspf_publish.specs.KnownBatches.{KnownBatches, AreFirstOf}
 use Rattle.cspf_questions.specs.declared.kinds.QuestionKinds.{QuestionKinds}
 use Rattle.cspf_client.specs.SessionStates.{AreFirstSteps}
@@ -16,8 +16,12 @@ use Rattle.cspf_client.specs.Sessions.{ReopensOf, ClientSession, IsSession, Came
 use Rattle.cspf_client.specs.declared.error.ClientError.TheVariants.{Ahead}
 use Rattle.cspf_publish.specs.Histories.{BeginsWith}
 use Rattle.cspf_client.specs.ServingStates.{ServingState, HasMet}
-use Rattle.cspf_stream.specs.RowAnswers.{AreAllAnswered}
+use Rattle.cspf_stream.specs.RowAnswers.{AnswersOf, AreAllAnswered}
+use Rattle.cspf_stream.specs.StreamStops.{FailsOf, stream_error_of}
 use Rattle.cspf_stream.specs.declared.error.StreamError.{StreamError}
+use Rattle.cspf_stream.specs.declared.error.StreamError.TheVariants as error
+use Rattle.cspf_stream.specs.declared.open_changes.OpenChanges.{OpenChanges}
+use Rattle.cspf_stream.proofs.Going.{stopped_of}
 use Rattle.cspf_stream.specs.Lines.{end_line}
 use Rattle.cspf_serve.specs.ServedRun.{AreServedFrom, IsServedSession, IsServedSeat, IsServedRun, IsServedStatus, IsUpdateAnsweredAt, IsLastLineSaid, IsUpdatesRun}
 use Rattle.cspf_jobs.specs.Jobs.{AreDone}
@@ -27,11 +31,14 @@ use Rattle.cspf_serve.specs.declared.serving.served_run.Served.{Served}
 use Rattle.std.specs.Option.{option_map}
 use Rattle.cspf_serve.specs.NumberedPairs.{AreNumberedPairs}
 use Rattle.cspf_serve.specs.ClientSeats.{SeatState, IsSeat, AreNumberedSeats}
+use Rattle.cspf_serve.specs.Publishing.{PublishingSpec}
+use Rattle.cspf_serve.specs.PublishingRuns.{IsLastPut, IsPublishingRun, IsStatusOf, IsStreamRun}
 use Rattle.cspf_serve.specs.ServedSteps.{IsAnswered, IsOfSource, IsServedEnd, IsClosedRun}
 use Rattle.cspf_serve.specs.Updates.{UpdatesState, no_updates}
 use Rattle.cspf_stream.specs.OpenChanges.{AreOpen}
-use Rattle.cspf_serve.specs.UpdatesStates.{KeptUpdates, KeepsUpdates, IsFresh}
+use Rattle.cspf_serve.specs.UpdatesStates.{KeptUpdates, KeepsUpdates, IsFresh, IsUpdateTaken, IsUpdateFailed, updates_spec}
 use Rattle.cspf_serve.proofs.Pairs.{numbered_second, numbered_through, pairs_with}
+use Rattle.cspf_serve.proofs.UpdatesStream.{carried_all, carried_stopped}
 
 abbrev Rows : Type 0
 Rows = List (List (List ℕ))
@@ -137,29 +144,87 @@ module _ {Q V : Type 0} (kinds : QuestionKinds) (reopens : ReopensOf Q V) (bytes
       (λ n c a s is ends. seat_of published all n c a s is ends.0 ends.1) 1 clients ran served answered
       (pairs_with (IsServedEnd published) (λ (a : ServingState Q V). AreFirstSteps all a.state.steps) ran served closed firsts)
 
-  -- If the publisher of a run started without batches, and the updates and the clients have ended,
-  -- the result of the run is as `IsServedRun` says.
-  pub served_run : {W J : Type 0} (said : W → Option (List ℕ)) (recorded : J → Option (List ℕ)) (updates : Option (List ℕ)) (writer written : W) (first : PublisherState J) (left : KeptUpdates J)
+  -- if the rows of the stream were answered, and the stream and the clients have ended, the result of
+  -- the run is as `IsPublishingRun` says
+  pub publishing_run : {S F W J : Type 0} (spec : PublishingSpec S J) (answers : AnswersOf S) (fails : F → FailsOf S) (said : W → Option (List ℕ)) (rows : Option (List ℕ)) (writer written : W) (before after : S)
       (clients : List (Client Q V)) (ran : List (ServingState Q V)) (ended : Result (Unit {0}) StreamError) (served : Served W J V)
-      → (t : UpdatesState) × KeepsUpdates recorded first left t × IsUpdatesRun ended (option_map rows_of updates) t (said writer) (said written)
-      → AreNumberedPairs (IsAnswered kinds reopens bytes contents source) 1 clients ran → IsClosedRun recorded ended written left ran served
-      → IsServedRun kinds updates said recorded bytes contents reopens writer first.journal clients served
-  served_run said recorded updates writer written first left clients ran ended served run answered closed = grind (arith, common_steps, IsPrefix-trans, served_of)
+      → IsStreamRun answers fails spec.last ended (option_map rows_of rows) before after (said writer) (said written)
+      → AreNumberedPairs (IsAnswered kinds reopens bytes contents source) 1 clients ran → IsClosedRun spec ended written after ran served
+      → IsPublishingRun spec answers fails kinds rows said bytes contents reopens writer before clients served
+  publishing_run spec answers fails said rows writer written before after clients ran ended served run answered closed = record {
+    after = after;
+    rows_run = rw (closed.ended_is, closed.said_is) run;
+    journal_is = closed.journal_is;
+    steps_of_run = closed.steps;
+    clients_served = served_of (spec.publisher after).batches served.steps clients ran served.clients.items answered closed.closed closed.seen;
+    status_is = closed.status;
+  }
 
 -- all rows of the updates are answered, and then the last line is written, or writing it fails
 pub updates_run : (said : Result (Unit {0}) StreamError) (all : Option Rows) (t : UpdatesState) (old mid new : Option (List ℕ))
     → AreAllAnswered IsUpdateAnsweredAt all no_updates t old mid → IsLastLineSaid said (end_line t.run.changes) mid new → IsUpdatesRun said all t old new
 updates_run said all t old mid new answered last = search rules
 
-module _ {J V : Type 0} (contents : J → Option (List ℕ)) (first : PublisherState J) (k : KeptUpdates J) (t : UpdatesState) (kept : KeepsUpdates contents first k t) (clients : List (ServedClient V)) where
-  pub status_accepted : ¬ ((0 < k.refused) ⊎ (0 < k.changes.count)) → All (λ (c : ServedClient V). c.refused ≡ 0) clients → IsServedStatus t clients 0
-  status_accepted not each = search rules
+-- the last line that the code says after the updates counts the open changes (those without their
+-- `end` row)
+last_said : (said : Result (Unit {0}) StreamError) (k : OpenChanges) (changes : List Change) (old new : Option (List ℕ)) → AreOpen k changes
+    → IsLastPut said (λ line. (all : List Change) → AreOpen k all → line ≡ end_line all) old new → IsLastLineSaid said (end_line changes) old new
+last_said (Ok done) k changes old new kept put = rw (sym (put.1 changes kept)) put.2
+last_said (Err error.Memory) k changes old new kept put = put
+last_said (Err error.Write) k changes old new kept put = rw (sym (put.1 changes kept)) put.2
+last_said (Err error.Flush) k changes old new kept put = rw (sym (put.1 changes kept)) put.2
+last_said (Err other) k changes old new kept put = absurd put
 
-  pub status_refused : (0 < k.refused) ⊎ (0 < k.changes.count) → IsServedStatus t clients 2
-  status_refused h1 = search rules
+module _ {J : Type 0} (contents : J → Option (List ℕ)) (first : PublisherState J) where
+  -- the updates of a run are answered as the specification says
+  updates_run_of : {F : Type 0} (ended : Result (Unit {0}) StreamError) (all : Option Rows) (k k' : KeptUpdates J) (old new : Option (List ℕ)) → KeepsUpdates contents first k no_updates
+      → IsStreamRun {F = F} (IsUpdateTaken contents) (λ fault. IsUpdateFailed contents) (updates_spec contents).last ended all k k' old new
+      → (t : UpdatesState) × KeepsUpdates contents first k' t × IsUpdatesRun ended all t old new
+  updates_run_of ended all k k' old new kept (inl a) =
+      let b = carried_all contents first all all false k k' kept old a.0 a.1 in
+      (b.0, b.1, updates_run ended all b.0 old a.0 new b.2 (last_said ended k'.changes b.0.run.changes a.0 new b.1.changes a.2))
+  updates_run_of ended all k k' old new kept (inr a) =
+      let stopped = stopped_of (IsUpdateTaken contents) (IsUpdateFailed contents) all a.1 a.2 k k' old new a.0 a.4 in
+      let b = carried_stopped contents first all a.1 a.2 k k' kept old new (stream_error_of a.0) stopped in
+      (b.0, b.1, rw a.3 (inl (a.1, a.2, b.2)))
 
-  pub status_of_clients : ¬ All (λ (c : ServedClient V). c.refused ≡ 0) clients → IsServedStatus t clients 2
-  status_of_clients not = inr ((λ all. not all.each), refl)
+  module _ {V : Type 0} (k : KeptUpdates J) (t : UpdatesState) (kept : KeepsUpdates contents first k t) (clients : List (ServedClient V)) where
+    status_accepted : ¬ ((0 < k.refused) ⊎ (0 < k.changes.count)) → All (λ (c : ServedClient V). c.refused ≡ 0) clients → IsServedStatus t clients 0
+    status_accepted not each = search rules
+
+    status_refused : (0 < k.refused) ⊎ (0 < k.changes.count) → IsServedStatus t clients 2
+    status_refused h1 = search rules
+
+    status_of_clients : ¬ All (λ (c : ServedClient V). c.refused ≡ 0) clients → IsServedStatus t clients 2
+    status_of_clients not = inr ((λ all. not all.each), refl)
+
+    status_of_updates : (status : ℕ) → IsStatusOf ((updates_spec contents).refused k) clients status → IsServedStatus t clients status
+    status_of_updates status (inl is) = rw is.2 (status_accepted is.0 is.1)
+    status_of_updates status (inr (inl refused, is)) = rw is (status_refused refused)
+    status_of_updates status (inr (inr not, is)) = rw is (status_of_clients not)
+
+  -- If the publisher of a run started without batches, its result is as `IsServedRun` says.
+  pub served_run : {F W Q V : Type 0} (kinds : QuestionKinds) (updates : Option (List ℕ)) (said : W → Option (List ℕ)) (bytes : Q → Option (List ℕ)) (replies : V → Option (List ℕ)) (reopens : ReopensOf Q V)
+      (writer : W) (before : KeptUpdates J) (clients : List (Client Q V)) (served : Served W J V) → KeepsUpdates contents first before no_updates
+      → IsPublishingRun {F = F} (updates_spec contents) (IsUpdateTaken contents) (λ fault. IsUpdateFailed contents) kinds updates said bytes replies reopens writer before clients served
+      → IsServedRun kinds updates said contents bytes replies reopens writer first.journal clients served
+  served_run kinds updates said bytes replies reopens writer before clients served kept run =
+      let t = updates_run_of served.updates (option_map rows_of updates) before run.after (said writer) (said served.said) kept run.rows_run in
+      let batches = t.1.published.batches in
+      let steps = run.steps_of_run in
+      record {
+        state = t.0;
+        updates_run = t.2;
+        journal_grown = rw run.journal_is t.1.published.journal;
+        steps_of_run = record {
+          journal = steps.journal;
+          recorded = rw batches at steps.recorded;
+          counted = rw batches at steps.counted;
+          later = IsPrefix-trans t.0.steps run.after.sink.steps.steps served.steps.steps t.1.published.steps steps.later;
+        };
+        clients_served = rw batches at run.clients_served;
+        status_is = status_of_updates run.after t.0 t.1 served.clients.items served.status run.status_is;
+      }
 
 -- At the end of a run, each client learns of all published batches. The result of a client has the
 -- batches that it knew before that.

@@ -11,7 +11,7 @@ use Rattle.cspf_client.specs.ServingStates.{ServingState}
 use Rattle.cspf_client.specs.SessionStates.{AreFirstSteps}
 use Rattle.cspf_client.proofs.Prefixes.{BeginsWith-trans, IsPrefix-trans}
 use Rattle.cspf_serve.specs.ServedSteps.{IsOfSource}
-use Rattle.cspf_serve.specs.UpdatesStates.{AreAllCounted}
+use Rattle.cspf_serve.specs.Publishing.{AreAllCounted}
 
 -- Some steps count all batches of a publisher as published. They also count all batches of another
 -- publisher with the same batches and the same journal (the source is its identity).

@@ -1,5 +1,5 @@
--- Private: the seats of the clients of a run, as contracts see them.
-use Rattle.std.specs.Prelude.{◌≡◌, ℕ, suc, ⊤, List, [], ◌∷◌}
+-- The seats of the clients of a run, as contracts see them.
+use Rattle.std.specs.Prelude.{◌≡◌, ℕ, suc, ⊤, List, [], ◌∷◌, All, length}
 use Rattle.logbook.specs.Pages.{Book}
 use Rattle.cspf_publish.specs.AskerStates.{AskerState}
 
@@ -18,3 +18,9 @@ IsSeat source seat = seat.asker.source ≡ source
 abbrev pub AreNumberedSeats : ℕ → List SeatState → Type 0
 AreNumberedSeats n [] = ⊤
 AreNumberedSeats n (seat ∷ seats) = (seat.number ≡ n) × AreNumberedSeats (suc n) seats
+
+-- There are `count` seats, one for each client. They have askers of one publisher, whose journal has
+-- the identity `source`.
+pub record AreSeats (source : Book) (count : ℕ) (seats : List SeatState) : Type 0 where
+  pub each : All (IsSeat source) seats
+  pub many : length seats ≡ count

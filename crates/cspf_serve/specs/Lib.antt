@@ -12,8 +12,11 @@ pub mod LiveRun
 pub mod LiveLines
 pub mod RunFaults
 pub mod Updates
+pub mod Publishing
 pub mod UpdatesStates
+pub mod UpdatesSource
 pub mod NumberedPairs
 pub mod ServedRun
+pub mod PublishingRuns
 pub mod ServedLaws
 pub mod ServedSteps

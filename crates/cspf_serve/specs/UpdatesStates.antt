@@ -1,5 +1,5 @@
 -- Private: the state that the code keeps for a stream of updates.
-use Rattle.std.specs.Prelude.{◌≡◌, ℕ, ◌+◌, ◌≤◌, false, Option, List, [], ◌∷◌, ◌++◌, length}
+use Rattle.std.specs.Prelude.{◌≡◌, ℕ, ◌+◌, ◌<◌, ◌⊎◌, false, Option, List, [], ◌∷◌, ◌++◌, length}
 use mathlib.Core.List.{IsPrefix}
 use Rattle.cspf_journal.specs.declared.log_step.LogStep.{LogStep}
 use Rattle.std.specs.Io.KnownBytes.{Appends}
@@ -7,9 +7,9 @@ use Rattle.cspf_ero.specs.ReplyLine.{IsReply}
 use Rattle.cspf_model.specs.Best.{Answer, IsBestAnswer}
 use Rattle.cspf_model.specs.Changes.{database_after}
 use Rattle.cspf_model.specs.Numbered.{NumberedChanges}
+use Rattle.cspf_model.specs.declared.batch.Change.{Change}
 use Rattle.cspf_publish.specs.ApplyErrors.{IsApplyError, IsNextBatch}
-use Rattle.cspf_publish.specs.Histories.{BeginsWith}
-use Rattle.cspf_publish.specs.JournalSteps.{KnownSteps, batches_of, count_of}
+use Rattle.cspf_publish.specs.JournalSteps.{KnownSteps}
 use Rattle.cspf_publish.specs.PublisherStates.{PublisherState}
 use Rattle.cspf_publish.specs.declared.errors.ApplyError.{ApplyError}
 use Rattle.cspf_rows.specs.BatchText.{batch_text}
@@ -17,11 +17,12 @@ use Rattle.cspf_rows.specs.Rows.{row_of}
 use Rattle.cspf_stream.specs.declared.open_changes.OpenChanges.{OpenChanges}
 use Rattle.cspf_stream.specs.OpenChanges.{AreOpen}
 use Rattle.cspf_stream.specs.RowAnswers.{AnswersOf}
-use Rattle.cspf_stream.specs.Lines.{version_line}
+use Rattle.cspf_stream.specs.Lines.{version_line, end_line}
 use Rattle.cspf_stream.specs.Sinks.{SinkSpec}
 use Rattle.cspf_stream.specs.StreamStops.{FailsOf}
 use Rattle.cspf_solve.specs.Script.{open_batch, after_batch}
 use Rattle.cspf_serve.specs.LiveWords.{refusal_of}
+use Rattle.cspf_serve.specs.Publishing.{PublishingSpec}
 use Rattle.cspf_serve.specs.Updates.{UpdatesState, AreNowCounted, IsUpdateAnswered, IsUpdateLost, at_next_update}
 
 -- a publisher, and the steps of its journal, up to the step that counts the last of its batches as
@@ -29,13 +30,6 @@ use Rattle.cspf_serve.specs.Updates.{UpdatesState, AreNowCounted, IsUpdateAnswer
 pub record CountedState (J : Type 0) : Type 0 where
   pub publisher : PublisherState J
   pub steps : KnownSteps
-
--- The steps are steps of the publisher's journal. They record the publisher's batches, and count
--- all of these batches as published.
-pub record AreAllCounted {J : Type 0} (p : PublisherState J) (steps : KnownSteps) : Type 0 where
-  pub source : steps.source ≡ p.source
-  pub recorded : BeginsWith (batches_of steps.steps) p.batches
-  pub counted : length p.batches ≤ count_of steps.steps
 
 -- The state that the code keeps for the updates of a run: the publisher with its journal's steps,
 -- the open changes, and the numbers of answered requests and of refusals. An open change is one
@@ -116,3 +110,14 @@ abbrev pub IsUpdateFailed : {J : Type 0} → (J → Option (List ℕ)) → Fails
 IsUpdateFailed {J} contents place k fields k' =
     (first : PublisherState J) (s : UpdatesState) → KeepsUpdates contents first k s → place ≡ s.run.rows + 1
     → (t : UpdatesState) × KeepsUpdates contents first k' t × IsUpdateLost (at_next_update s) (row_of fields) t
+
+-- How the updates of a run publish. The last line counts the open changes (those without their `end`
+-- row). Refused are a row, a batch, and changes that are open at the end.
+abbrev pub updates_spec : {J : Type 0} → (J → Option (List ℕ)) → PublishingSpec (KeptUpdates J) J
+updates_spec {J} contents = record {
+  publisher = λ k. k.sink.publisher;
+  steps = λ k. k.sink.steps;
+  last = λ k line. (all : List Change) → AreOpen k.changes all → line ≡ end_line all;
+  refused = λ k. (0 < k.refused) ⊎ (0 < k.changes.count);
+  invariant = λ k. (first : PublisherState J) × (s : UpdatesState) × KeepsUpdates contents first k s;
+}

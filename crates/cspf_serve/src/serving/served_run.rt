@@ -1,24 +1,23 @@
 //! The run of `serve`: the calling thread answers the updates, and each client has a thread that
-//! answers its requests.
+//! answers its requests. `serve_seats` is this run for each state that answers a stream of rows and
+//! publishes batches.
 
-ghost use Rattle.std.specs.Prelude.{◌≡◌, ◌≤◌, ◌<◌, ◌↔◌, [], false, All, IfOk, IfErr, IfSome, IsSome, IsTrue, List, vec_len, vec_capacity};
+ghost use Rattle.std.specs.Prelude.{◌≡◌, ◌≤◌, ◌<◌, ◌↔◌, ℕ, [], false, All, IfOk, IfErr, IfSome, IsSome, IsTrue, sum_by, vec_len, vec_capacity};
 ghost use Rattle.std.specs.List.{AllZip};
 ghost use mathlib.Core.List.{IsPrefix};
 ghost use Rattle.logbook.specs.Pages.{Book};
 ghost use Rattle.cspf_client.specs.SessionStates.{AreFirstSteps};
 ghost use Rattle.cspf_publish.specs.JournalSteps.{AreJournalSteps};
 ghost use Rattle.cspf_rows.specs.Records.{IsPlain, rows_left};
-ghost use Rattle.cspf_publish.specs.PublisherStates.{PublisherState};
-ghost use Rattle.cspf_model.specs.declared.batch.Change.{Change as Changed};
-ghost use Rattle.cspf_stream.specs.OpenChanges.{AreOpen};
-ghost use Rattle.cspf_stream.specs.Lines.{end_line};
+ghost use Rattle.cspf_serve.specs.ClientSeats.{AreSeats};
+ghost use Rattle.cspf_serve.specs.Publishing.{AreAllCounted};
+ghost use Rattle.cspf_serve.specs.PublishingRuns.{IsLastPut, IsPublishingRun, IsStatusOf, IsStreamRun};
 ghost use Rattle.cspf_serve.specs.RunFaults.{IsOpeningFault};
-ghost use Rattle.cspf_serve.specs.ServedRun.{IsLastLineSaid, IsServedFault, IsServedRun, IsServedStatus, IsUpdatesRun};
-ghost use Rattle.cspf_serve.specs.ServedSteps.{AreSeats, IsAnswered, IsClosedRun, IsOfSource, IsRunOfUpdates, IsServedEnd};
-ghost use Rattle.cspf_serve.specs.Updates.{UpdatesState, no_updates};
-ghost use Rattle.cspf_serve.specs.UpdatesStates.{AreAllCounted, IsFresh, KeepsUpdates};
+ghost use Rattle.cspf_serve.specs.ServedRun.{IsServedFault, IsServedRun};
+ghost use Rattle.cspf_serve.specs.ServedSteps.{IsAnswered, IsClosedRun, IsOfSource, IsServedEnd};
 
 use crate::RunError;
+use crate::serving::publishing::Publishing;
 use crate::serving::updates::Updates;
 use crate::streams::opening::open_for;
 use cspf_client::{Client, Permits, Reopens, Replies, ServedClient, ServingClient};
@@ -121,12 +120,26 @@ impl<'a, Q: Read + Drop, V: Reopens<Q>, T: Wait, L: Ledger, K: Kinds> Doer<Clien
 }
 
 /// The memory that is allocated before any client starts: a seat for each client (all that its
-/// thread needs), and capacity for the states and the results of the clients.
+/// thread needs), and capacity for the states and the results of the clients. In contracts it is the
+/// list of the seats.
 #[derive(Drop)]
-struct Seats<'a, Q, V, T, L: Ledger, K> {
+pub struct Seats<'a, Q, V, T, L: Ledger, K> {
     seats: Vec<ClientSeat<'a, T, L, K>>,
     serving: Vec<ServingClient<Q, V>>,
     served: Vec<ServedClient<V>>,
+}
+
+impl<'a, Q, V, T, L: Ledger, K> Model for Seats<'a, Q, V, T, L, K> {
+    ghost use Rattle.std.specs.Prelude.{◌≡◌, ◌≤◌, [], List, vec_len, vec_capacity};
+    ghost use Rattle.cspf_serve.specs.ClientSeats.{SeatState, AreNumberedSeats};
+
+    ghost Value = { List SeatState };
+
+    ghost view = { λ s. s.seats.items };
+
+    ghost invariant = { λ s. AreNumberedSeats 1 s.seats.items
+        × (s.serving.items ≡ []) × (vec_len s.seats ≤ vec_capacity s.serving)
+        × (s.served.items ≡ []) × (vec_len s.seats ≤ vec_capacity s.served) };
 }
 
 /// Makes a seat for each asker. A seat has all that the thread of one client needs, and the asker
@@ -136,8 +149,10 @@ fn seat_all<'a, Q: Drop, V: Drop, T, L: Ledger, K>(
     permits: &'a Permits<'a, T, L>,
     askers: Vec<Asker>,
 ) -> Result<Seats<'a, Q, V, T, L, K>, AllocError>
-    ensures { IfOk result (λ made. (source : Book) → All (λ a. a.source ≡ source) askers.items
+    ensures seats { IfOk result (λ made. (source : Book) → All (λ a. a.source ≡ source) askers.items
         → AreSeats source (vec_len askers) made) }
+    ensures trees { IfOk result (λ made. sum_by (λ s. s.asker.most_trees) made
+        ≡ sum_by (λ a. a.most_trees) askers.items) }
 {
     let count = askers.len();
     let serving = Vec::with_capacity(alloc, count)?;
@@ -161,14 +176,14 @@ fn seat_all<'a, Q: Drop, V: Drop, T, L: Ledger, K>(
 }
 
 /// Returns the list of all steps of the journal that the publisher and the clients have seen.
-fn all_steps<J: Write, Q: Read + Drop, V: Replies + Drop>(
-    updates: &Updates<J>,
+fn all_steps<T, A: Publishing<T>, Q: Read + Drop, V: Replies + Drop>(
+    updates: &A,
     serving: &[ServingClient<Q, V>],
 ) -> SeenSteps
-    requires { All (IsOfSource updates.now.sink.publisher.source) serving.now }
+    requires { All (IsOfSource (A.spec.publisher updates.now).source) serving.now }
     ensures journal { AreJournalSteps result.steps }
-    ensures updates { IsPrefix updates.now.sink.steps.steps result.steps }
-    ensures counted { AreAllCounted updates.now.sink.publisher result }
+    ensures updates { IsPrefix (A.spec.steps updates.now).steps result.steps }
+    ensures counted { AreAllCounted (A.spec.publisher updates.now) result }
     ensures clients { All (λ c. AreFirstSteps result c.state.steps) serving.now }
 {
     let mut all = updates.steps();
@@ -179,15 +194,16 @@ fn all_steps<J: Write, Q: Read + Drop, V: Replies + Drop>(
 }
 
 /// Lets each client learn of all published batches, and returns the clients' results.
-fn close_all<J: Write, Q: Read + Drop, V: Replies + Drop>(
-    updates: &mut Updates<J>,
+fn close_all<T, A: Publishing<T>, Q: Read + Drop, V: Replies + Drop>(
+    updates: &mut A,
     serving: Vec<ServingClient<Q, V>>,
     room: Vec<ServedClient<V>>,
 ) -> Vec<ServedClient<V>>
-    requires source { All (IsOfSource updates.old.sink.publisher.source) serving.items }
+    requires source { All (IsOfSource (A.spec.publisher updates.old).source) serving.items }
     requires none { room.items ≡ [] }
     requires room { vec_len serving ≤ vec_capacity room }
-    ensures closed { AllZip (IsServedEnd updates.old.sink.publisher.batches) serving.items result.items }
+    ensures closed { AllZip (IsServedEnd (A.spec.publisher updates.old).batches) serving.items
+        result.items }
     ensures same { updates.new ≡ updates.old }
 {
     let mut served = room;
@@ -207,11 +223,9 @@ fn are_accepted<V>(clients: &[ServedClient<V>]) -> bool
     clients.iter().all(|client| client.refused == 0)
 }
 
-/// Returns 0 if no row and no batch of any stream was refused and no change is open (without its
-/// `end` row). Otherwise returns 2.
-fn status_of<J: Write, V>(updates: &Updates<J>, clients: &[ServedClient<V>]) -> u8
-    ensures { (first : PublisherState J) (t : UpdatesState) → KeepsUpdates J.contents first updates.now t
-        → IsServedStatus t clients.now result }
+/// Returns 0 if neither the updates nor a client had refusals. Otherwise returns 2.
+fn status_of<T, A: Publishing<T>, V>(updates: &A, clients: &[ServedClient<V>]) -> u8
+    ensures { IsStatusOf (A.spec.refused updates.now) clients.now result }
 {
     if updates.has_refused() {
         return 2;
@@ -219,15 +233,13 @@ fn status_of<J: Write, V>(updates: &Updates<J>, clients: &[ServedClient<V>]) -> 
     if are_accepted(clients) { 0 } else { 2 }
 }
 
-/// Writes the last line after the updates. It counts the open changes (those without their `end`
-/// row), and is empty if there are none.
-fn say_last<W: Write, J: Write>(
+/// Writes the last line after the updates. Does nothing if this line is empty.
+fn say_last<W: Write, T, A: Publishing<T>>(
     alloc: Global,
     said: &mut W,
-    updates: &Updates<J>,
+    updates: &A,
 ) -> Result<(), StreamError>
-    ensures { (all : List Changed) → AreOpen updates.now.changes all → IsLastLineSaid result
-        (end_line all) (W.contents said.old) (W.contents said.new) }
+    ensures { IsLastPut result (A.spec.last updates.now) (W.contents said.old) (W.contents said.new) }
 {
     match updates.last_line(alloc) {
         Ok(line) => put_line(line.as_slice(), said),
@@ -235,23 +247,23 @@ fn say_last<W: Write, J: Write>(
     }
 }
 
-/// The updates of a run: a stream that the calling thread answers.
-struct Publishing<'a, R, W, J, T> {
+/// The stream that the calling thread answers, and the state that answers it.
+struct OwnStream<'a, R, W, T, A> {
     rt: &'a T,
     alloc: Global,
     /// The stream of updates, until it has ended. Then the stream is dropped, while clients may
     /// still ask.
     rows: Option<Reader<R>>,
     said: W,
-    updates: Updates<J>,
+    updates: A,
 }
 
-impl<'a, R: Read + Drop, W: Write, J: Write, T: Wait> Meanwhile for Publishing<'a, R, W, J, T> {
+impl<'a, R: Read + Drop, W: Write, T, A: Publishing<T>> Meanwhile for OwnStream<'a, R, W, T, A> {
     type Output = Result<(), StreamError>;
 
-    ghost ready = { λ _ p. IsSome p.rows × IfSome p.rows IsPlain × IsFresh p.updates };
+    ghost ready = { λ _ p. IsSome p.rows × IfSome p.rows IsPlain × A.may_stand 1 p.updates };
 
-    ghost ran = { λ p ended q. IfSome p.rows (λ rows. IsRunOfUpdates W.contents J.contents (rows_left R.remaining rows) p.said p.updates ended q.said q.updates) };
+    ghost ran = { λ p ended q. IfSome p.rows (λ rows. IsStreamRun A.answers A.fails A.spec.last ended (rows_left R.remaining rows) p.updates q.updates (W.contents p.said) (W.contents q.said)) };
 
     fn run(&mut self, _go: &Go) -> Result<(), StreamError> {
         let Some(mut rows) = self.rows.take() else {
@@ -268,19 +280,18 @@ impl<'a, R: Read + Drop, W: Write, J: Write, T: Wait> Meanwhile for Publishing<'
     }
 }
 
-/// Answers all rows of the updates. After them, if changes are open (without their `end` row),
-/// writes the line that counts these changes.
-fn answer_updates<R: Read, W: Write, J: Write, T: Wait>(
+/// Answers all rows of the updates, and then writes the last line.
+fn answer_updates<R: Read, W: Write, T, A: Publishing<T>>(
     rt: &T,
     alloc: Global,
     rows: &mut Reader<R>,
     said: &mut W,
-    updates: &mut Updates<J>,
+    updates: &mut A,
 ) -> Result<(), StreamError>
     requires plain { IsPlain rows.old }
-    requires fresh { IsFresh updates.old }
-    ensures { IsRunOfUpdates W.contents J.contents (rows_left R.remaining rows.old) said.old updates.old
-        result said.new updates.new }
+    requires state { A.may_stand 1 updates.old }
+    ensures { IsStreamRun A.answers A.fails A.spec.last result (rows_left R.remaining rows.old)
+        updates.old updates.new (W.contents said.old) (W.contents said.new) }
 {
     match answer_rows(rt, alloc, rows, said, updates) {
         Ok(()) => say_last(alloc, said, updates),
@@ -291,7 +302,9 @@ fn answer_updates<R: Read, W: Write, J: Write, T: Wait>(
 /// Opens a publisher over a journal, and makes a seat for each client, with all that the client's
 /// thread needs. The publisher and the clients' askers (which answer requests) together keep at
 /// most `trees` trees of lower bounds.
-fn open_seats<'a, J: Write, Q: Drop, V: Drop, T: Wait, L: Ledger, K>(
+///
+/// An error returns the journal, to which nothing was written.
+pub fn open_seats<'a, J: Write, Q: Drop, V: Drop, T: Wait, L: Ledger, K>(
     rt: &T,
     alloc: Global,
     permits: &'a Permits<'a, T, L>,
@@ -303,6 +316,7 @@ fn open_seats<'a, J: Write, Q: Drop, V: Drop, T: Wait, L: Ledger, K>(
     ensures publisher { IfOk result (λ made.
         (made.0.batches ≡ []) × (made.0.stopped ≡ false) × (made.0.journal ≡ journal)) }
     ensures seats { IfOk result (λ made. AreSeats made.0.source clients made.1) }
+    ensures trees { IfOk result (λ made. sum_by (λ s. s.asker.most_trees) made.1 ≤ trees) }
     ensures error { IfErr result (λ e. IsOpeningFault e.0) }
     ensures journal { IfErr result (λ e. e.1 ≡ journal) }
 {
@@ -316,18 +330,18 @@ fn open_seats<'a, J: Write, Q: Drop, V: Drop, T: Wait, L: Ledger, K>(
 }
 
 /// Makes the result of a run after the updates and all clients have ended.
-fn close_run<W, J: Write, Q: Read + Drop, V: Replies + Drop, T: Wait>(
+fn close_run<W, J, Q: Read + Drop, V: Replies + Drop, T: Wait, A: Publishing<T, Journal = J>>(
     rt: &T,
     ended: Result<(), StreamError>,
     said: W,
-    updates: Updates<J>,
+    updates: A,
     serving: Vec<ServingClient<Q, V>>,
     room: Vec<ServedClient<V>>,
 ) -> Served<W, J, V>
-    requires source { All (IsOfSource updates.sink.publisher.source) serving.items }
+    requires source { All (IsOfSource (A.spec.publisher updates).source) serving.items }
     requires none { room.items ≡ [] }
     requires room { vec_len serving ≤ vec_capacity room }
-    ensures { IsClosedRun J.contents ended said updates serving.items result }
+    ensures { IsClosedRun A.spec ended said updates serving.items result }
 {
     let mut updates = updates;
     let steps = all_steps(&updates, serving.as_slice());
@@ -339,6 +353,74 @@ fn close_run<W, J: Write, Q: Read + Drop, V: Replies + Drop, T: Wait>(
         journal: updates.close(rt),
         clients,
         steps,
+    }
+}
+
+/// Answers the rows of a stream by `updates`, while each client of `clients` has a thread, which
+/// serves it as in `run_serve`. The publisher of `updates` and `seats` are from one call of
+/// `open_seats`. This publisher may have published batches since then. When the rows have ended,
+/// their reader is dropped. The run ends when the rows and all clients have ended:
+/// `IsPublishingRun`.
+///
+/// There is an error only if the system has no thread for a client, which the error names. Then
+/// nothing was read, and the publisher is closed. The error returns all inputs except the rows, and
+/// the publisher's journal.
+pub fn serve_seats<
+    R: Read + Drop,
+    W: Write,
+    J,
+    Q: Read + Drop + Send,
+    V: Reopens<Q> + Drop + Send,
+    T: Threads + Wait + Sync,
+    L: Ledger + Send + Sync,
+    K: Kinds + Send,
+    A: Publishing<T, Journal = J>,
+>(
+    rt: &T,
+    alloc: Global,
+    rows: R,
+    said: W,
+    updates: A,
+    clients: Vec<Client<Q, V>>,
+    seats: Seats<'_, Q, V, T, L, K>,
+) -> Result<Served<W, J, V>, (ServedError, W, J, Vec<Client<Q, V>>)>
+    requires clients { 0 < vec_len clients }
+    requires seats { AreSeats (A.spec.publisher updates).source (vec_len clients) seats }
+    requires state { A.may_stand 1 updates }
+    requires invariant { A.spec.invariant updates }
+    ensures served { IfOk result (IsPublishingRun A.spec A.answers A.fails K.kinds
+        (R.remaining rows) W.contents Q.remaining V.contents V.reopens said updates clients.items) }
+    ensures error { IfErr result (λ e. (client : ℕ) × (e.0 ≡ ServedError.NoThread client)
+        × (0 < client) × (client ≤ vec_len clients)) }
+    ensures back { IfErr result (λ e. (e.1 ≡ said) × (e.2 ≡ (A.spec.publisher updates).journal)
+        × (e.3 ≡ clients)) }
+{
+    let Seats {
+        seats,
+        serving,
+        served,
+    } = seats;
+    let mut own = OwnStream {
+        rt,
+        alloc,
+        rows: Some(open_records(alloc, rows)),
+        said,
+        updates,
+    };
+    let ran = run_all(rt, seats, clients, serving, &mut own);
+    let OwnStream {
+        rt: _,
+        alloc: _,
+        rows: _,
+        said,
+        updates,
+    } = own;
+    match ran {
+        Ok((serving, ended)) => Ok(close_run(rt, ended, said, updates, serving, served)),
+        Err((NoThread { job }, clients)) => {
+            let error = ServedError::NoThread { client: job };
+            Err((error, said, updates.close(rt), clients))
+        }
     }
 }
 
@@ -373,33 +455,8 @@ fn serve_under<
         Ok(opened) => opened,
         Err((error, journal)) => return Err((ServedError::Run(error), said, journal, clients)),
     };
-    let Seats {
-        seats,
-        serving,
-        served,
-    } = seats;
-    let mut own = Publishing {
-        rt,
-        alloc,
-        rows: Some(open_records(alloc, updates)),
-        said,
-        updates: Updates::new(alloc, publisher),
-    };
-    let ran = run_all(rt, seats, clients, serving, &mut own);
-    let Publishing {
-        rt: _,
-        alloc: _,
-        rows: _,
-        said,
-        updates,
-    } = own;
-    match ran {
-        Ok((serving, ended)) => Ok(close_run(rt, ended, said, updates, serving, served)),
-        Err((NoThread { job }, clients)) => {
-            let error = ServedError::NoThread { client: job };
-            Err((error, said, updates.close(rt), clients))
-        }
-    }
+    let own = Updates::new(alloc, publisher);
+    serve_seats(rt, alloc, updates, said, own, clients, seats)
 }
 
 /// As `run_serve`, but the type `L` is the ledger of the permits, and `blank` has the parts of this

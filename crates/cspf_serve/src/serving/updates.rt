@@ -1,14 +1,14 @@
 //! Answers the rows of the updates. The publisher publishes each batch, and then counts it as
 //! published.
 
-ghost use Rattle.std.specs.Prelude.{◌≡◌, ◌<◌, ◌⊎◌, [], List, IsTrue, ◌↔◌, IfOk};
-ghost use Rattle.cspf_model.specs.declared.batch.Change.{Change as Changed};
+ghost use Rattle.std.specs.Prelude.{◌≡◌, []};
 ghost use Rattle.cspf_stream.specs.OpenChanges.{AreOpen};
-ghost use Rattle.cspf_stream.specs.Lines.{end_line};
 ghost use Rattle.cspf_publish.specs.JournalSteps.{AreJournalSteps};
-ghost use Rattle.cspf_serve.specs.UpdatesStates.{AreAllCounted, IsFresh};
+ghost use Rattle.cspf_serve.specs.Publishing.{AreAllCounted};
+ghost use Rattle.cspf_serve.specs.UpdatesStates.{IsFresh};
 
 use crate::line::refusal_of;
+use crate::serving::publishing::Publishing;
 use cspf_ero::reply_line;
 use cspf_model::{Batch, Request, one_refusal};
 use cspf_publish::{Publisher, SeenSteps, Told};
@@ -28,7 +28,8 @@ pub(super) struct Counted<J> {
 }
 
 impl<J> Model for Counted<J> {
-    ghost use Rattle.cspf_serve.specs.UpdatesStates.{CountedState, AreAllCounted};
+    ghost use Rattle.cspf_serve.specs.Publishing.{AreAllCounted};
+    ghost use Rattle.cspf_serve.specs.UpdatesStates.{CountedState};
 
     ghost Value = { CountedState J };
 
@@ -155,46 +156,33 @@ impl<J: Write> Updates<J> {
             rows: Rows::new(alloc, Counted::new(publisher)),
         }
     }
+}
 
-    /// The line that counts the open changes at the end of the updates. It is empty if no changes
-    /// are open.
-    pub(crate) fn last_line(&self, alloc: Global) -> Result<Vec<u8>, AllocError>
-        ensures { IfOk result (λ line. (all : List Changed) → AreOpen self.now.changes all
-            → line.items ≡ end_line all) }
-    {
-        self.rows.changes.last_line(alloc)
-    }
+impl<J: Write, T: Wait> Publishing<T> for Updates<J> {
+    type Journal = J;
 
-    /// Whether a row or a batch was refused, or a change is open.
-    pub(super) fn has_refused(&self) -> bool
-        ensures { IsTrue result ↔ ((0 < self.now.refused) ⊎ (0 < self.now.changes.count)) }
-    {
-        self.rows.refused > 0 || self.rows.changes.count > 0
-    }
+    ghost use Rattle.cspf_serve.specs.UpdatesSource.{updates_have_one_source};
+    ghost use Rattle.cspf_serve.specs.UpdatesStates.{updates_spec};
 
-    /// The steps of the journal up to the step that counts the publisher's last batch as published.
-    pub(super) fn steps(&self) -> SeenSteps
-        ensures same { result ≡ self.now.sink.steps }
-        ensures journal { AreJournalSteps result.steps }
-        ensures counted { AreAllCounted self.now.sink.publisher result }
-    {
+    ghost spec = { updates_spec J.contents };
+
+    fn steps(&self) -> SeenSteps {
         self.rows.sink.steps()
     }
 
-    /// Returns a value by which a client learns of all published batches.
-    pub(super) fn tell(&mut self) -> Told
-        ensures batches { result.batches ≡ self.old.sink.publisher.batches }
-        ensures source { result.source ≡ self.old.sink.publisher.source }
-        ensures same { self.new ≡ self.old }
-    {
+    fn tell(&mut self) -> Told {
         self.rows.sink.publisher.tell()
     }
 
-    /// Closes the publisher, and returns the writer of its journal. The call may wait for clients
-    /// whose requests are being answered at that time.
-    pub(crate) fn close<R: Wait>(self, rt: &R) -> J
-        ensures { result ≡ self.sink.publisher.journal }
-    {
+    fn last_line(&self, alloc: Global) -> Result<Vec<u8>, AllocError> {
+        self.rows.changes.last_line(alloc)
+    }
+
+    fn has_refused(&self) -> bool {
+        self.rows.refused > 0 || self.rows.changes.count > 0
+    }
+
+    fn close<R: Wait>(self, rt: &R) -> J {
         let Updates { rows } = self;
         let Rows {
             sink,
@@ -208,4 +196,6 @@ impl<J: Write> Updates<J> {
         } = sink;
         publisher.close(rt)
     }
+
+    ghost one_source = { updates_have_one_source J.contents };
 }

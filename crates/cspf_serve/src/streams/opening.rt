@@ -1,4 +1,4 @@
-ghost use Rattle.std.specs.Prelude.{◌≡◌, ◌<◌, ◌≤◌, [], All, IfOk, IfErr, vec_len, false};
+ghost use Rattle.std.specs.Prelude.{◌≡◌, ◌<◌, ◌≤◌, [], All, IfOk, IfErr, sum_by, vec_len, false};
 ghost use Rattle.cspf_publish.specs.declared.limits.TheConstants.{MOST_ASKERS};
 ghost use Rattle.cspf_serve.specs.RunFaults.{IsOpeningFault};
 
@@ -25,6 +25,7 @@ pub(crate) fn open_for<J: Write, T: Wait>(
     ensures source { IfOk result (λ opened.
         All (λ a. a.source ≡ opened.0.source) opened.1.items) }
     ensures count { IfOk result (λ opened. vec_len opened.1 ≡ workers) }
+    ensures trees { IfOk result (λ opened. sum_by (λ a. a.most_trees) opened.1.items ≤ trees) }
     // `open` allows this number of askers. So there are only two errors: memory is refused, or the
     // replicas (the two copies of the table) have no place for another reader.
     ensures error { IfErr result (λ e. IsOpeningFault e.0) }

@@ -1,4 +1,4 @@
-use Rattle.std.proofs.Common.{◌≡◌, ◌++◌, All, length}
+use Rattle.std.proofs.Common.{◌≡◌, ◌++◌, All, length, sum_by}
 use Rattle.std.specs.Vec.Iter.{into_iter_items}
 use Rattle.logbook.specs.Pages.{Book}
 use Rattle.cspf_serve.specs.ClientSeats.{IsSeat, AreNumberedSeats}
@@ -10,4 +10,5 @@ invariant-loop-asker g l = record {
   seats : (source : Book) → All (λ a. a.source ≡ source) l.fn.askers.items → All (IsSeat source) l.seats.items;
   numbers : AreNumberedSeats 1 l.seats.items;
   many : length l.seats.items ≡ length l.yielded;
+  trees : sum_by (λ s. s.asker.most_trees) l.seats.items ≡ sum_by (λ a. a.most_trees) l.yielded;
 }

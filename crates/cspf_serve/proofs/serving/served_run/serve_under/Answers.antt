@@ -1,45 +1,32 @@
-use Rattle.std.proofs.Common.{◌≡◌, length, refl, subst, arith}
+use Rattle.std.proofs.Common.{◌∙◌, ap, subst, sym}
+use Rattle.std.proofs.lemmas.Result.{IfErr-weaker, IfOk-weaker}
+use Rattle.cspf_publish.specs.PublisherStates.{PublisherState}
 use Rattle.cspf_serve.specs.ServedRun.{IsServedRun}
-use Rattle.cspf_serve.specs.ServedSteps.{IsAnswered}
-use Rattle.cspf_serve.proofs.Pairs.{length_numbered}
-use Rattle.cspf_serve.proofs.ServedSteps.{ready_of, answered_of, sources_of_run, served_run, begins}
+use Rattle.cspf_serve.specs.Updates.{no_updates}
+use Rattle.cspf_serve.proofs.ServedSteps.{served_run, begins}
 use Rattle.cspf_serve.proofs.serving.served_run.serve_under.Goals as goal
 
-pub run_all-ran-requires-clause-ready : goal.run_all-ran-requires-clause-ready
-run_all-ran-requires-clause-ready g c = λ κs bounds.
-    let made = c.in-Ok.opened in
-    let seats = made.1.seats.ok.0 in
-    let many = c.in-Ok.ensures.seats.many in
-    let clients = c.args.clients.ok.0 in
-    let long : length made.1.seats.items ≡ length c.args.clients.items = omega arith in (
-      ready_of g.K.Kinds.kinds g.V.Reopens.reopens g.Q.Read.remaining g.V.Write.contents made.0.source made.1.seats.items c.args.clients.items long,
-      (refl, c.open_records.ensures.plain, c.new.ensures.fresh),
-    )
+pub serve_seats-requires-clause-seats : goal.serve_seats-requires-clause-seats
+serve_seats-requires-clause-seats g c = λ κs bounds. rw (c.new-own.ensures.publisher, sym c.len.ensures) c.in-Ok.ensures.seats
 
-pub close_run-requires-clause-source : goal.close_run-requires-clause-source
-close_run-requires-clause-source g c =
-    let made = c.in-Ok.opened in
+pub serve_seats-requires-clause-invariant : goal.serve_seats-requires-clause-invariant
+serve_seats-requires-clause-invariant g c = λ κs bounds.
     let opened = c.in-Ok.ensures.publisher in
-    let answered = answered_of g.K.Kinds.kinds g.V.Reopens.reopens g.Q.Read.remaining g.V.Write.contents made.0.source 1 made.1.seats.items c.args.clients.items c.in-Ok-ran.serving.items c.in-Ok.ensures.seats.seats c.in-Ok.ensures.seats.numbers c.in-Ok-ran.ensures.done.0 in
-    let kept = begins g.J.Write.contents made.0 c.new.result c.new.ensures.publisher opened.0 opened.1 c.new.ensures.open c.new.ensures.fresh in
-    let run = c.in-Ok-ran.ensures.done.1 made.0 kept in
-    rw run.1.published.source (sources_of_run g.K.Kinds.kinds g.V.Reopens.reopens g.Q.Read.remaining g.V.Write.contents made.0.source c.args.clients.items c.in-Ok-ran.serving.items answered)
+    (c.in-Ok.opened.0, no_updates, begins g.J.Write.contents c.in-Ok.opened.0 c.new-own.result c.new-own.ensures.publisher opened.0 opened.1 c.new-own.ensures.open c.new-own.ensures.fresh)
 
-pub close_run-requires-clause-room : goal.close_run-requires-clause-room
-close_run-requires-clause-room g c =
-    let made = c.in-Ok.opened in
-    let answered = answered_of g.K.Kinds.kinds g.V.Reopens.reopens g.Q.Read.remaining g.V.Write.contents made.0.source 1 made.1.seats.items c.args.clients.items c.in-Ok-ran.serving.items c.in-Ok.ensures.seats.seats c.in-Ok.ensures.seats.numbers c.in-Ok-ran.ensures.done.0 in
-    let long = length_numbered (IsAnswered g.K.Kinds.kinds g.V.Reopens.reopens g.Q.Read.remaining g.V.Write.contents made.0.source) 1 c.args.clients.items c.in-Ok-ran.serving.items answered in
-    let clients = c.args.clients.ok.0 in
-    let serving = c.in-Ok-ran.serving.ok.0 in
-    let room = c.in-Ok.ensures.seats.room_left in omega arith
-
-pub returns-in-Ok-ran-clause-served : goal.returns-in-Ok-ran-clause-served
-returns-in-Ok-ran-clause-served g c =
-    let made = c.in-Ok.opened in
+pub returns-clause-served : goal.returns-clause-served
+returns-clause-served g c =
     let opened = c.in-Ok.ensures.publisher in
-    let answered = answered_of g.K.Kinds.kinds g.V.Reopens.reopens g.Q.Read.remaining g.V.Write.contents made.0.source 1 made.1.seats.items c.args.clients.items c.in-Ok-ran.serving.items c.in-Ok.ensures.seats.seats c.in-Ok.ensures.seats.numbers c.in-Ok-ran.ensures.done.0 in
-    let kept = begins g.J.Write.contents made.0 c.new.result c.new.ensures.publisher opened.0 opened.1 c.new.ensures.open c.new.ensures.fresh in
-    let run = rw c.open_records.ensures.rows at (c.in-Ok-ran.ensures.done.1 made.0 kept) in
-    subst (λ j. IsServedRun g.K.Kinds.kinds (g.R.Read.remaining c.args.updates) g.W.Write.contents g.J.Write.contents g.Q.Read.remaining g.V.Write.contents g.V.Reopens.reopens c.args.said j c.args.clients.items c.close_run.result) opened.2
-    (served_run g.K.Kinds.kinds g.V.Reopens.reopens g.Q.Read.remaining g.V.Write.contents made.0.source g.W.Write.contents g.J.Write.contents (g.R.Read.remaining c.args.updates) c.args.said _ made.0 _ c.args.clients.items c.in-Ok-ran.serving.items _ c.close_run.result run answered c.close_run.ensures)
+    let kept = begins g.J.Write.contents c.in-Ok.opened.0 c.new-own.result c.new-own.ensures.publisher opened.0 opened.1 c.new-own.ensures.open c.new-own.ensures.fresh in
+    IfOk-weaker c.serve_seats.result _ _
+    (λ served run. subst (λ journal. IsServedRun g.K.Kinds.kinds (g.R.Read.remaining c.args.updates) g.W.Write.contents g.J.Write.contents g.Q.Read.remaining g.V.Write.contents g.V.Reopens.reopens c.args.said journal c.args.clients.items served) opened.2
+    (served_run g.J.Write.contents c.in-Ok.opened.0 g.K.Kinds.kinds (g.R.Read.remaining c.args.updates) g.W.Write.contents g.Q.Read.remaining g.V.Write.contents g.V.Reopens.reopens c.args.said c.new-own.result c.args.clients.items served kept run))
+    c.serve_seats.ensures.served
+
+pub returns-clause-error : goal.returns-clause-error
+returns-clause-error g c = IfErr-weaker c.serve_seats.result _ _ (λ e is. rw is.1 (is.2, is.3)) c.serve_seats.ensures.error
+
+pub returns-clause-back : goal.returns-clause-back
+returns-clause-back g c =
+    let journal = ap (λ (p : PublisherState g.row.J.Denot). p.journal) c.new-own.ensures.publisher ∙ c.in-Ok.ensures.publisher.2 in
+    IfErr-weaker c.serve_seats.result _ _ (λ e is. (is.0, is.1 ∙ journal, is.2)) c.serve_seats.ensures.back
