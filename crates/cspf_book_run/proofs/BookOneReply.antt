@@ -122,9 +122,9 @@ module _ (best : OneBestAnswer) (s : BookRunState) (q : Request) (hold : ℕ) wh
 
   place_refusal_once : (why other : PlaceRefusal) → IsPlaceRefusal s q why → IsPlaceRefusal s q other → why ≡ other
   place_refusal_once unplaced.Stopped other a b = absurd a
-  place_refusal_once (unplaced.Keep written) other a b = absurd a
+  place_refusal_once (unplaced.Failed fault) other a b = absurd a
   place_refusal_once why unplaced.Stopped a b = absurd b
-  place_refusal_once why (unplaced.Keep written) a b = absurd b
+  place_refusal_once why (unplaced.Failed fault) a b = absurd b
   place_refusal_once unplaced.Exhausted unplaced.Exhausted a b = refl
   place_refusal_once unplaced.Exhausted other a b = absurd (omega (arith, a, b.0))
   place_refusal_once why unplaced.Exhausted a b = absurd (omega (arith, a.0, b))
@@ -171,9 +171,9 @@ module _ (best : OneBestAnswer) (s : BookRunState) (q : Request) (hold : ℕ) wh
 
 held_refusal_once : (s : BookRunState) (p : Placement) (why other : HeldRefusal) → IsHeldRefusal s p why → IsHeldRefusal s p other → why ≡ other
 held_refusal_once s p unheld.Stopped other a b = absurd a
-held_refusal_once s p (unheld.Keep written) other a b = absurd a
+held_refusal_once s p (unheld.Failed fault) other a b = absurd a
 held_refusal_once s p why unheld.Stopped a b = absurd b
-held_refusal_once s p why (unheld.Keep written) a b = absurd b
+held_refusal_once s p why (unheld.Failed fault) a b = absurd b
 held_refusal_once s p unheld.Exhausted unheld.Exhausted a b = refl
 held_refusal_once s p unheld.Exhausted other a (room, b) = absurd (omega (arith, a, room))
 held_refusal_once s p why unheld.Exhausted (room, a) b = absurd (omega (arith, room, b))
@@ -213,9 +213,9 @@ held_once s p l m t u (inr (why, r, line, after)) (inr (why2, r2, line2, after2)
 
 release_refusal_once : (s : BookRunState) (id : ℕ) (why other : ReleaseRefusal) → IsReleaseRefusal s id why → IsReleaseRefusal s id other → why ≡ other
 release_refusal_once s id unreleased.Stopped other a b = absurd a
-release_refusal_once s id (unreleased.Keep written) other a b = absurd a
+release_refusal_once s id (unreleased.Failed fault) other a b = absurd a
 release_refusal_once s id why unreleased.Stopped a b = absurd b
-release_refusal_once s id why (unreleased.Keep written) a b = absurd b
+release_refusal_once s id why (unreleased.Failed fault) a b = absurd b
 release_refusal_once s id unreleased.Exhausted unreleased.Exhausted a b = refl
 release_refusal_once s id unreleased.Exhausted unreleased.Absent a b = absurd (omega (arith, a, b.0))
 release_refusal_once s id unreleased.Absent unreleased.Exhausted a b = absurd (omega (arith, a.0, b))

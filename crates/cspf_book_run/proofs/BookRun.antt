@@ -29,9 +29,11 @@ use Rattle.cspf_book_run.specs.BookScript.{BookRunState, book_start, book_summar
 use Rattle.cspf_book_run.specs.BookOutput.{AreFirstBookRows, IsBookBegun, IsNextBookText, IsBookOutputAtError}
 use Rattle.cspf_book_run.specs.BookStates.{KeepsBook, IsBookBefore, AreBookCounts}
 use Rattle.cspf_book_run.specs.Kept.{kept_of, text_of_row}
-use Rattle.cspf_book_run.specs.Keeping.{writer_spec}
-use Rattle.cspf_book_run.specs.KeptRuns.{KeptRunState, kept_start, kept_run_answers, AreKeptRowsAnswered, IsRowCutOff, IsAnsweredStopped, IsBookRun}
+use Rattle.cspf_book_run.specs.Keeping.{IsTextCutOff, IsWriteFailed, writer_spec}
+use Rattle.cspf_book_run.specs.KeptRuns.{KeptRunState, kept_start, kept_run_answers, AreKeptRowsAnswered, IsRowCut, IsRowCutOff, IsAnsweredStopped, IsBookRun}
 use Rattle.cspf_book_run.specs.KeptStates.{IsRowFailed, IsAnsweredDone, IsAnsweredLost, IsBookAnswer, IsBookAnswerLost, IsBookLast}
+use Rattle.cspf_book_run.specs.declared.write_fault.WriteFault.{WriteFault}
+use Rattle.cspf_book_run.specs.declared.write_fault.WriteFault.TheVariants as fault
 
 abbrev Rows : Type 0
 Rows = List (List (List ℕ))
@@ -45,6 +47,14 @@ no_bytes = []
 -- to the writer `keep`.
 kept_whole : (s t : BookRunState) (fields : List (List ℕ)) (row : BookRow) → book_row_of fields ≡ Ok row → t.book.version ≡ s.book.version + 1 → text_of_row s fields (Ok row) ≡ kept_of s fields t
 kept_whole s t fields row read rises = rw (another_version s.book.version t.book.version rises) (rw read refl)
+
+-- A write to the writer `keep` failed.
+abbrev pub IsCutAt : {K : Type 0} → (K → Option (List ℕ)) → WriteFault → Keeping K → List ℕ → Keeping K → Type 0
+IsCutAt contents why old text new = (written : ℕ) × (why ≡ fault.Keep written) × IsTextCutOff contents written old text new
+
+pub keep_fault : {K : Type 0} (contents : K → Option (List ℕ)) (why : WriteFault) (old : Keeping K) (text : List ℕ) (new : Keeping K) → IsWriteFailed contents old text why new → IsCutAt contents why old text new
+keep_fault contents (fault.Keep written) old text new is = (written, refl, is)
+keep_fault contents (fault.Journal written) old text new is = absurd is
 
 -- If the book is unchanged, nothing goes to the writer `keep`.
 kept_none : (s t : BookRunState) (fields : List (List ℕ)) → t.book ≡ s.book → no_bytes ≡ kept_of s fields t
@@ -89,23 +99,28 @@ module _ {K : Type 0} (contents : K → Option (List ℕ)) (place : ℕ) (s : Ke
   abbrev stopped_at : BookRunState → List ℕ → KeptRunState
   stopped_at t more = record { run = t; stopped = true; kept = s.kept ++ more }
 
+  -- the write to `keep` that fails at a row
+  abbrev pub cut_of : (line : List ℕ) (t : BookRunState) (row : BookRow) (old new : Keeping K) (f : IsRowFailed (writer_spec contents) s.run fields row line t old new)
+      → IsCutAt contents f.why old (text_of_row s.run fields (Ok row)) new
+  cut_of line t row old new f = keep_fault contents f.why old (text_of_row s.run fields (Ok row)) new f.cut_off.2
+
   -- The write of the row's text fails, and the row is refused.
   pub cut_off_row : (line : List ℕ) (t : BookRunState) (row : BookRow) (old new : Keeping K) → book_row_of fields ≡ Ok row → old.stopped ≡ s.stopped
-      → (f : IsRowFailed (writer_spec contents) s.run fields row line t old new) → IsRowCutOff place s fields line (stopped_at t (take f.written (text_of_row s.run fields (Ok row))))
+      → (f : IsRowFailed (writer_spec contents) s.run fields row line t old new) → IsRowCutOff place s fields line (stopped_at t (take (cut_of line t row old new f).0 (text_of_row s.run fields (Ok row))))
   cut_off_row line t row old new read stands f = (
     sym stands ∙ f.going,
     refl,
-    f.written,
+    (cut_of line t row old new f).0,
     record {
       lines = f.lines;
       next = f.next;
       accepted = as_read f.lines f.next (Ok row) read f.accepted;
-      part = subst (λ (x : List ℕ). f.written < length x) (kept_whole s.run f.next fields row read f.cut_off.1.version) f.cut_off.2.part;
+      part = subst (λ (x : List ℕ). (cut_of line t row old new f).0 < length x) (kept_whole s.run f.next fields row read f.cut_off.1.version) (cut_of line t row old new f).2.part;
       row = row;
       read = read;
-      refused = f.refused;
+      refused = subst (λ (why : WriteFault). IsRowCut why s.run row line t) (cut_of line t row old new f).1 f.refused;
     },
-    ap (λ (x : List ℕ). s.kept ++ take f.written x) (kept_whole s.run f.next fields row read f.cut_off.1.version),
+    ap (λ (x : List ℕ). s.kept ++ take (cut_of line t row old new f).0 x) (kept_whole s.run f.next fields row read f.cut_off.1.version),
   )
 
   said : (line : List ℕ) (t : BookRunState) (row : Result BookRow BookRowError) (old new : Keeping K) → book_row_of fields ≡ row → old.stopped ≡ s.stopped
@@ -126,9 +141,9 @@ module _ {K : Type 0} (contents : K → Option (List ℕ)) (place : ℕ) (s : Ke
   }
   said line t (Ok row) old new read stands (inr (inl f)) = record {
     stopped = true;
-    more = take f.written (text_of_row s.run fields (Ok row));
-    stops = f.cut_off.2.stops;
-    written = f.cut_off.2.front;
+    more = take (cut_of line t row old new f).0 (text_of_row s.run fields (Ok row));
+    stops = (cut_of line t row old new f).2.stops;
+    written = (cut_of line t row old new f).2.front;
     answered = inr (inl (cut_off_row line t row old new read stands f));
   }
   said line t (Ok row) old new read stands (inr (inr (stops, a, same))) =
@@ -255,7 +270,8 @@ module _ {K : Type 0} (contents : K → Option (List ℕ)) (k : BookRows (Keepin
     unsaid : (s : KeptRunState) → IsBookAt (1 + length a.done) b s → AreFirstBookRows rows a.done a.rest a.lines s → (line : List ℕ) (t : BookRunState) (row : BookRow) → book_row_of fields ≡ Ok row
         → IsRowFailed (writer_spec contents) s.run fields row line t b.rows.sink.keeping b'.rows.sink.keeping → IsHalted error.Memory (Some rows) old new (keep_of b')
     unsaid s at begins line t row read f =
-        let text = take f.written (text_of_row s.run fields (Ok row)) in (
+        let cut = cut_of contents (suc (length a.done)) s fields line t row b.rows.sink.keeping b'.rows.sink.keeping f in
+        let text = take cut.0 (text_of_row s.run fields (Ok row)) in (
           a.lines,
           s.kept ++ text,
           inr (record {
@@ -271,7 +287,7 @@ module _ {K : Type 0} (contents : K → Option (List ℕ)) (k : BookRows (Keepin
             whole_kept = refl;
           }),
           a.written,
-          Appends-trans (keep_of k) (keep_of b) (keep_of b') s.kept text at.written f.cut_off.2.front,
+          Appends-trans (keep_of k) (keep_of b) (keep_of b') s.kept text at.written cut.2.front,
         )
 
     lost_at_row : (s : KeptRunState) → IsBookAt (1 + length a.done) b s → AreFirstBookRows rows a.done a.rest a.lines s → (row : Result BookRow BookRowError) → book_row_of fields ≡ row

@@ -26,12 +26,21 @@ use Rattle.cspf_book.specs.BookState.{BookState}
 use Rattle.cspf_book_run.specs.declared.book_row.BookRow.TheVariants as book_row
 use Rattle.cspf_book_run.specs.BookLines.{over_line, lost_line, base_line}
 use Rattle.cspf_book_run.specs.BookScript.{BookRunState, AreBaseLines, IsBookStepAnswered, after_answer, after_base_batch, after_open_change, after_refused_base_batch, open_base_batch}
-use Rattle.cspf_book_run.specs.BookSinks.{BookSinkState, book_spec, book_state_with}
+use Rattle.cspf_book_run.specs.BookSinks.{IsBatchCut, BookSinkState, book_spec, book_state_with}
 use Rattle.cspf_book_run.specs.BookStates.{KeepsBook, BookLeads}
 use Rattle.cspf_book_run.specs.Kept.{text_of_step}
 use Rattle.cspf_book_run.specs.KeptRuns.{IsEndUnkept, IsStepStopped}
 use Rattle.cspf_book_run.specs.KeptStates.{IsRowDone, IsRowFailed, IsRowLost}
 use Rattle.cspf_book_run.specs.Keeping.{KeepSpec, IsCutWith, IsKeptIfNew}
+use Rattle.cspf_book_run.specs.WriteFaultWords.{batch_refusal_of}
+use Rattle.cspf_book_run.specs.declared.write_fault.WriteFault.{WriteFault}
+use Rattle.cspf_book_run.specs.declared.write_fault.WriteFault.TheVariants as fault
+
+-- A base batch whose text isn't kept is refused for this reason.
+pub batch_cut : {S : Type 0} (spec : KeepSpec S) (old : BookSinkState S) (b : NumberedChanges) (why : WriteFault) (new : BookSinkState S) → IsBatchCut spec old b why new
+    → new.book ≡ old.book → new.batches ≡ old.batches → new.skipped ≡ old.skipped → (book_spec spec).refuses old b (batch_refusal_of why) new
+batch_cut spec old b (fault.Keep written) new cut book batches skipped = (cut, book, batches, skipped)
+batch_cut spec old b (fault.Journal written) new cut book batches skipped = (cut, book, batches, skipped)
 
 -- The lines that the code makes of the stored changes are the lines of the base batch.
 pub base_lines_are : {S : Type 0} (sink : BookSinkState S) (number n version : ℕ) (kept all : List Change) (overs : List Over) (ids lines : List ℕ) → kept ≡ all → n ≡ number → version ≡ sink.book.version + 1 - sink.skipped
@@ -59,13 +68,13 @@ Answered Says t = (after : BookRunState) × IsOfRun t after × Says after
 module _ {S : Type 0} (spec : KeepSpec S) where
   -- The row of the base would be accepted, but its text isn't kept, so it is refused.
   record IsStepFailed (s : BookRunState) (asked : Step) (line : List ℕ) (t : BookRunState) (old new : S) : Type 0 where
-    written : ℕ
+    why : WriteFault
     lines : List ℕ
     next : BookRunState
     going : spec.stopped old ≡ false
     accepted : IsBookStepAnswered s asked lines next
-    cut_off : IsCutWith spec s.book next.book written old (text_of_step s asked) new
-    refused : IsEndUnkept (refusal.Keep written) s asked line t
+    cut_off : IsCutWith spec s.book next.book why old (text_of_step s asked) new
+    refused : IsEndUnkept (batch_refusal_of why) s asked line t
 
   -- The row of the base is answered. If it makes a new version, its text is kept. Or its text isn't
   -- kept, or it was stopped earlier.
@@ -78,7 +87,7 @@ module _ {S : Type 0} (spec : KeepSpec S) where
       → IsRowDone spec s fields (book_row.Base row) line t old new
   as_row s t fields row line old new (inl a) = inl a
   as_row s t fields row line old new (inr (inl f)) =
-      inr (inl (record { written = f.written; lines = f.lines; next = f.next; going = f.going; accepted = f.accepted; cut_off = f.cut_off; refused = f.refused }))
+      inr (inl (record { why = f.why; lines = f.lines; next = f.next; going = f.going; accepted = f.accepted; cut_off = f.cut_off; refused = f.refused }))
   as_row s t fields row line old new (inr (inr a)) = inr (inr a)
 
   -- A row that leaves the book unchanged is answered in the same way, whether or not it was stopped.
@@ -143,11 +152,11 @@ module _ {S : Type 0} (spec : KeepSpec S) where
     )
 
     -- The batch's text isn't kept.
-    failed : (written : ℕ) (new : S) (lines : List ℕ) → IsRightEnd (spec.stopped old) r.sink.book.version (r.sink.batches + 1) number count (length r.changes) → Fits r.sink.book.base batch
-        → AreBaseLines (book_state_with r.sink r.changes) number lines → IsCutWith spec r.sink.book (after_base_batch (book_state_with r.sink r.changes)).book written old (batch_text batch) new
-        → line ≡ refused_batch_line number (refusal.Keep written) → IsStepFailed s (step.End number count) line (after_refused_base_batch s) old new
-    failed written new lines right fits base cut line_is = record {
-      written = written;
+    failed : (why : WriteFault) (new : S) (lines : List ℕ) → IsRightEnd (spec.stopped old) r.sink.book.version (r.sink.batches + 1) number count (length r.changes) → Fits r.sink.book.base batch
+        → AreBaseLines (book_state_with r.sink r.changes) number lines → IsCutWith spec r.sink.book (after_base_batch (book_state_with r.sink r.changes)).book why old (batch_text batch) new
+        → line ≡ refused_batch_line number (batch_refusal_of why) → IsStepFailed s (step.End number count) line (after_refused_base_batch s) old new
+    failed why new lines right fits base cut line_is = record {
+      why = why;
       lines = lines;
       next = after_base_batch s;
       going = right.going;
@@ -171,7 +180,9 @@ module _ {S : Type 0} (spec : KeepSpec S) where
         unaccepted (refusal.Unfit why) sink.keeping right.going
         (unfit_end s.book.version (s.batches + 1) s.changes s.book.base number count unfit (spec.stopped old) why (rw (of.book, of.batches, of.changes) at right) (rw (of.book, of.changes) at refuses))
         same is
-    dropped (refusal.Keep written) sink (inr (right, ((fits, lines, base, cut), book, batches, skipped))) is = inr (inl (failed written sink.keeping lines right fits base cut is))
+    dropped (refusal.Keep written) sink (inr (right, ((fits, lines, base, cut), book, batches, skipped))) is = inr (inl (failed (fault.Keep written) sink.keeping lines right fits base cut is))
+    dropped (refusal.Journal written) sink (inr (right, ((fits, lines, base, cut), book, batches, skipped))) is =
+        inr (inl (failed (fault.Journal written) sink.keeping lines right fits base cut is))
     dropped other sink (inr (right, (none, book, batches, skipped))) is = absurd none
 
     -- If memory is refused for the line of a refused batch, nothing is kept, or the batch's text isn't
@@ -180,7 +191,8 @@ module _ {S : Type 0} (spec : KeepSpec S) where
         → (sink.keeping ≡ old) ⊎ IsStepFailed s (step.End number count) line (after_refused_base_batch s) old sink.keeping
     lost why sink (inl (wrong, same)) is = inl (ap (λ (x : BookSinkState S). x.keeping) same)
     lost (refusal.Unfit why) sink (inr (right, ((refuses, same), book, batches, skipped))) is = inl same
-    lost (refusal.Keep written) sink (inr (right, ((fits, lines, base, cut), book, batches, skipped))) is = inr (failed written sink.keeping lines right fits base cut is)
+    lost (refusal.Keep written) sink (inr (right, ((fits, lines, base, cut), book, batches, skipped))) is = inr (failed (fault.Keep written) sink.keeping lines right fits base cut is)
+    lost (refusal.Journal written) sink (inr (right, ((fits, lines, base, cut), book, batches, skipped))) is = inr (failed (fault.Journal written) sink.keeping lines right fits base cut is)
     lost other sink (inr (right, (none, book, batches, skipped))) is = absurd none
 
     refused : IsEndRefused (book_spec spec) r number count line t → Answered (λ after. IsStepDone s (step.End number count) line after old t.sink.keeping) t
@@ -268,6 +280,6 @@ module _ {S : Type 0} (spec : KeepSpec S) where
               fails.0,
               fails.1,
               subst (λ (x : S). IsRowFailed spec s fields (book_row.Base row) fails.0 fails.1 k.sink.keeping x) (sym same)
-                  (record { written = f.written; lines = f.lines; next = f.next; going = f.going; accepted = f.accepted; cut_off = f.cut_off; refused = f.refused }),
+                  (record { why = f.why; lines = f.lines; next = f.next; going = f.going; accepted = f.accepted; cut_off = f.cut_off; refused = f.refused }),
             )
       ]

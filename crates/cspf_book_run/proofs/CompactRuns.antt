@@ -1,6 +1,7 @@
 -- What a run makes of which a compact stream is written.
 use Rattle.std.proofs.Common.{◌≡◌, ℕ, suc, ◌-◌, ◌<◌, Bool, false, List, [], ◌∷◌, ◌++◌, length, Option, Some, None, IfSome, IfOk, Result, Ok, Err, inl, inr, refl, sym, ap, subst, ◌∙◌, arith}
 use Rattle.std.specs.List.{AllByRecursion}
+use Rattle.std.specs.Option.{option_map}
 use Rattle.cspf_model.specs.declared.request.Request.{Request}
 use Rattle.cspf_model.specs.Best.{Answer, unknown_from, unknown_to, no_route, route}
 use Rattle.cspf_rows.specs.Records.{rows_of}
@@ -29,8 +30,9 @@ use Rattle.cspf_book_run.specs.Keeping.{nothing_spec}
 use Rattle.cspf_book_run.specs.BookRows.{book_row_of}
 use Rattle.cspf_book_run.specs.BookScript.{BookRunState, book_start, book_answers, IsBookRowAnswered, IsBookStepAnswered, after_held}
 use Rattle.cspf_book_run.specs.BookStates.{KeepsBook, IsReadable}
-use Rattle.cspf_book_run.specs.CompactStates.{IsRowTaken, IsCompactFault, IsBookCompact, IsOpenStop, compact_stop_of}
-use Rattle.cspf_book_run.specs.Compacts.{AreAllTaken, IsCompact, IsCompaction, AreUnended, IsCompactStop}
+use Rattle.cspf_book_run.specs.CompactStates.{IsRowTaken, IsCompactFault, IsBookCompact, IsOpenStop, IsReadingStop, compact_stop_of}
+use Rattle.cspf_book_run.specs.declared.book_rows.BookRows.{BookRows}
+use Rattle.cspf_book_run.specs.Compacts.{AreAllTaken, IsBookRead, IsCompact, IsCompaction, AreUnended, IsCompactStop}
 use Rattle.cspf_book_run.specs.HeldRows.{IsPlacementInRange, IsWritable}
 use Rattle.cspf_book_run.specs.KeptStates.{IsAnsweredDone}
 use Rattle.cspf_book_run.specs.Settled.{IsSettledPart, IsCutSettled, IsTornStop}
@@ -107,66 +109,89 @@ record IsRunTaken (place : ℕ) (s : BookRunState) (b : CompactRows) (done : Row
   after : BookRunState
   keeps : KeepsBook b.rows.rows after
   none : after.refused ≡ 0
-  low : AreLowest after.book.placements
   lines : List ℕ
   answered : AreAnswered book_answers place s done lines after
 
-rows_taken : (place : ℕ) (k b : CompactRows) (s : BookRunState) (done : Rows) (lines : List ℕ) → KeepsBook k.rows.rows s → s.refused ≡ 0 → AreLowest s.book.placements
+rows_taken : (place : ℕ) (k b : CompactRows) (s : BookRunState) (done : Rows) (lines : List ℕ) → KeepsBook k.rows.rows s → s.refused ≡ 0
     → AreAnswered IsRowTaken place k done lines b → IsRunTaken place s b done
 unfolding AreAnswered
-rows_taken place k b s [] lines keeps none low (quiet, same) = record {
+rows_taken place k b s [] lines keeps none (quiet, same) = record {
   after = s;
   keeps = subst (λ (x : CompactRows). KeepsBook x.rows.rows s) (sym same) keeps;
   none = none;
-  low = low;
   lines = [];
   answered = (refl, refl);
 }
-rows_taken place k b s (fields ∷ rows) lines keeps none low (line, next, more, a, is, rest) =
+rows_taken place k b s (fields ∷ rows) lines keeps none (line, next, more, a, is, rest) =
     let led = a.lead s keeps in
-    let further = rows_taken (suc place) next b led.0 rows more led.1 (sym led.1.refused ∙ a.none) (lowest_row place s fields led.2.0 led.0 led.2.1 low) rest in
+    let further = rows_taken (suc place) next b led.0 rows more led.1 (sym led.1.refused ∙ a.none) rest in
     record {
       after = further.after;
       keeps = further.keeps;
       none = further.none;
-      low = further.low;
       lines = led.2.0 ++ further.lines;
       answered = (led.2.0, led.0, further.lines, led.2.1, refl, further.answered);
     }
 
+lowest_rows : (place : ℕ) (s t : BookRunState) (rows : Rows) (lines : List ℕ) → AreAnswered book_answers place s rows lines t → AreLowest s.book.placements → AreLowest t.book.placements
+unfolding AreAnswered
+lowest_rows place s t [] lines (quiet, same) low = lowest_same s.book t.book (ap (λ (x : BookRunState). x.book.placements) same) low
+lowest_rows place s t (fields ∷ rows) lines (line, next, more, a, is, rest) low = lowest_rows (suc place) next t rows more rest (lowest_row place s fields line next a low)
+
+some_weaker : {X : Type 0} (o : Option X) (P Q : X → Type 0) → ((x : X) → P x → Q x) → IfSome o P → IfSome o Q
+some_weaker None P Q so is = tt
+some_weaker (Some x) P Q so is = so x is
+
+none_open : {X : Type 0} (xs : List X) → length xs ≡ 0 → xs ≡ []
+none_open [] is = refl
+none_open (x ∷ xs) is = absurd (omega (arith, is))
+
+-- the numbers of placements, their setup priorities and their ends
+writable : (ps : List Placement) → AllByRecursion IsPlacementInRange ps → AreLowest ps → AllByRecursion ConnectsItsEnds ps → AllByRecursion IsWritable ps
+writable [] range low ends = tt
+writable (p ∷ ps) range low ends = (record { range = range.0; setup = low.0; ends = ends.0 }, writable ps range.1 low.1 ends.1)
+
+-- All rows were read, and the text is the compact stream of the book.
+pub compaction_made : (bytes : Option (List ℕ)) (b : BookRows KeepsNothing) (text : List ℕ) → IsBookRead (option_map rows_of bytes) b → IsBookCompact b text
+    → IfSome bytes (λ bytes. IsCompaction (rows_of bytes) text)
+compaction_made None b text read c = tt
+compaction_made (Some bytes) b text (after, keeps, ended, taken) c =
+    let book : b.rows.sink.book ≡ after.book = keeps.book in
+    let its : IsCompact after.book.base after.book.placements text = subst (λ (x : BookState). IsCompact x.base x.placements text) book c.compact in
+    let in_order : ArePlaced after.book.placements = subst (λ (x : BookState). ArePlaced x.placements) book c.placed in
+    let ranges : AllByRecursion IsPlacementInRange after.book.placements = subst (λ (x : BookState). AllByRecursion IsPlacementInRange x.placements) book c.range in
+    let low = lowest_rows 1 book_start after (rows_of bytes) taken.0 taken.1 tt in
+    record {
+      after = after;
+      taken = taken;
+      ended = ended;
+      compact = its;
+      same = c.make after.book text in_order (writable after.book.placements ranges low in_order.ends) its;
+    }
+
+-- No compact stream is made, since memory is refused.
+pub reading_stops : (bytes : Option (List ℕ)) (why : CompactStop) → IsReadingStop why → IfSome bytes (λ bytes. IsCompactStop why (rows_of bytes))
+reading_stops None why is = tt
+reading_stops (Some bytes) (stop.Stream why) is = tt
+reading_stops (Some bytes) (stop.Refused row line) is = absurd is
+reading_stops (Some bytes) (stop.Unended line) is = absurd is
+
 module _ (k : CompactRows) (fresh : KeepsBook k.rows.rows book_start) where
   all_taken : (b : CompactRows) (done : Rows) (lines : List ℕ) → AreAnswered IsRowTaken 1 k done lines b → IsRunTaken 1 book_start b done
-  all_taken b done lines a = rows_taken 1 k b book_start done lines fresh refl tt a
+  all_taken b done lines a = rows_taken 1 k b book_start done lines fresh refl a
 
   taken_of : (b : CompactRows) (done : Rows) → (r : IsRunTaken 1 book_start b done) → AreAllTaken done r.after
   taken_of b done r = (r.lines, r.answered, r.none)
 
-  -- the numbers of placements, their setup priorities and their ends
-  writable : (ps : List Placement) → AllByRecursion IsPlacementInRange ps → AreLowest ps → AllByRecursion ConnectsItsEnds ps → AllByRecursion IsWritable ps
-  writable [] range low ends = tt
-  writable (p ∷ ps) range low ends = (record { range = range.0; setup = low.0; ends = ends.0 }, writable ps range.1 low.1 ends.1)
-
-  -- All rows are taken, no changes are open, and the text is the compact stream of the book.
-  pub compaction_made : (all : Option Rows) (b : CompactRows) (text : List ℕ) (old new : Option (List ℕ)) → AreAllAnswered IsRowTaken all k b old new → IsBookCompact b text
-      → IfSome all (λ rows. IsCompaction rows text)
-  compaction_made None b text old new a c = tt
-  compaction_made (Some rows) b text old new a c =
-      let r = all_taken b a.done a.lines a.answered in
-      let book : b.rows.rows.sink.book ≡ r.after.book = r.keeps.book in
-      let its : IsCompact r.after.book.base r.after.book.placements text = subst (λ (x : BookState). IsCompact x.base x.placements text) book c.compact in
-      let in_order : ArePlaced r.after.book.placements = subst (λ (x : BookState). ArePlaced x.placements) book c.placed in
-      let ranges : AllByRecursion IsPlacementInRange r.after.book.placements = subst (λ (x : BookState). AllByRecursion IsPlacementInRange x.placements) book c.range in
-      subst (λ (xs : Rows). IsCompaction xs text) (sym a.whole) (record {
-        after = r.after;
-        taken = taken_of b a.done r;
-        ended = none_open r.after.changes (sym r.keeps.changes.count ∙ c.closed);
-        compact = its;
-        same = c.make r.after.book text in_order (writable r.after.book.placements ranges r.low in_order.ends) its;
-      })
-    where
-      none_open : {X : Type 0} (xs : List X) → length xs ≡ 0 → xs ≡ []
-      none_open [] is = refl
-      none_open (x ∷ xs) is = absurd (omega (arith, is))
+  -- All rows are taken, and no change is open.
+  pub book_read : (all : Option Rows) (b : CompactRows) (old new : Option (List ℕ)) → AreAllAnswered IsRowTaken all k b old new → b.rows.rows.changes.count ≡ 0 → IsBookRead all b.rows
+  book_read all b old new a closed =
+      let r = all_taken b a.done a.lines a.answered in (
+        r.after,
+        r.keeps,
+        none_open r.after.changes (sym r.keeps.changes.count ∙ closed),
+        some_weaker all (λ (rows : Rows). rows ≡ a.done) (λ (rows : Rows). AreAllTaken rows r.after) (λ rows is. subst (λ (xs : Rows). AreAllTaken xs r.after) (sym is) (taken_of b a.done r)) a.whole,
+      )
 
   -- All rows are taken, and no compact stream is made.
   pub book_stops : (all : Option Rows) (b : CompactRows) (why : CompactStop) (old new : Option (List ℕ)) → AreAllAnswered IsRowTaken all k b old new → IsOpenStop b why

@@ -40,6 +40,7 @@ use Rattle.cspf_book_run.specs.Keeping.{KeepSpec, IsKeptIfNew}
 use Rattle.cspf_book_run.specs.PlaceErrors.{place_refusal_of, refusal_of_restoring}
 use Rattle.cspf_book_run.specs.PlacementLines.{held_line, refused_held_line, IsOfferReply, refused_offer_line, show_line, refused_show_line, left_line, refused_left_line}
 use Rattle.cspf_book_run.proofs.PlaceSteps.{after_refused, own_text, KeeperRefuses, kept_row, cut_row}
+use Rattle.cspf_book_run.specs.declared.write_fault.WriteFault.{WriteFault}
 
 -- ---- what the book does
 
@@ -114,13 +115,13 @@ module _ {S : Type 0} (spec : KeepSpec S) (old : BookState) (p : Placement) (bef
   unheld_by (version_error.Book unrestored.TooManyLinks) refusal is un =
       let e : unheld.Links ≡ refusal = cc is in subst Unheld e (of_book unrestored.TooManyLinks unheld.Links un.0 un.1 (λ x small written. (going, written, (small, x))))
   unheld_by (version_error.Taker unkept.Memory) refusal is un = absurd (cc is)
-  unheld_by (version_error.Taker (unkept.Failed written)) refusal is (may, batch, moves, refuses) =
-      let e : unheld.Keep written ≡ refusal = cc is in
+  unheld_by (version_error.Taker (unkept.Failed why)) refusal is (may, batch, moves, refuses) =
+      let e : unheld.Failed why ≡ refusal = cc is in
       subst Unheld e (
         going,
         subst (λ (b : BookState). b.version < 900000) same room,
         subst (λ (b : BookState). MayBeAdded b.placements p) same may,
-        (batch, subst (λ (b : BookState). LeadsTo b batch (after_restoring b p)) same moves.leads, subst (λ (x : List ℕ). spec.fails before.keeping x batch written after.keeping) text_is refuses),
+        (batch, subst (λ (b : BookState). LeadsTo b batch (after_restoring b p)) same moves.leads, subst (λ (x : List ℕ). spec.fails before.keeping x batch why after.keeping) text_is refuses),
       )
 
 -- If memory is refused, nothing is kept.
@@ -128,35 +129,35 @@ pub unheld_memory : {S : Type 0} (spec : KeepSpec S) (old : BookState) (p : Plac
     → IsUnrestored (KeeperRefuses spec) old p before why after → after.keeping ≡ before.keeping
 unheld_memory {S} spec old p before after (version_error.Book why) is un = ap (λ (x : Keeper S). x.keeping) un.1
 unheld_memory spec old p before after (version_error.Taker unkept.Memory) is (may, batch, moves, refuses) = refuses
-unheld_memory spec old p before after (version_error.Taker (unkept.Failed written)) is un = absurd (cc is)
+unheld_memory spec old p before after (version_error.Taker (unkept.Failed why)) is un = absurd (cc is)
 
 -- ---- what the code does for a `held` row
 
 module _ {S : Type 0} (spec : KeepSpec S) (fields : List (List ℕ)) (text : List ℕ) (text_is : text ≡ own_text fields) where
   -- The text of a `held` row isn't kept.
-  held_failed : (s : BookRunState) (p : Placement) (written : ℕ) (line : List ℕ) (k k' : S) → IsHeldUnkept spec s p text k (unheld.Keep written) k'
-      → line ≡ refused_held_line (id_of p) (unheld.Keep written) → IsRowFailed spec s fields (book_row.Held p) line (after_refusal s) k k'
-  held_failed s p written line k k' (going, room, may, cut) line_is = record {
-    written = written;
+  held_failed : (s : BookRunState) (p : Placement) (why : WriteFault) (line : List ℕ) (k k' : S) → IsHeldUnkept spec s p text k (unheld.Failed why) k'
+      → line ≡ refused_held_line (id_of p) (unheld.Failed why) → IsRowFailed spec s fields (book_row.Held p) line (after_refusal s) k k'
+  held_failed s p why line k k' (going, room, may, cut) line_is = record {
+    why = why;
     lines = held_lines s p;
     next = after_held s p;
     going = going;
     accepted = inl (room, may, refl, refl);
-    cut_off = cut_row spec fields text text_is written s.book (after_held s p).book k k' cut;
+    cut_off = cut_row spec fields text text_is why s.book (after_held s p).book k k' cut;
     refused = (line_is, refl);
   }
 
   held_unkept : (s : BookRunState) (p : Placement) (why : HeldRefusal) (line : List ℕ) (k k' : S) → IsHeldUnkept spec s p text k why k'
       → line ≡ refused_held_line (id_of p) why → IsRowDone spec s fields (book_row.Held p) line (after_refusal s) k k'
   held_unkept s p unheld.Stopped line k k' is line_is = inr (inr (is.0, (line_is, refl), is.1))
-  held_unkept s p (unheld.Keep written) line k k' is line_is = inr (inl (held_failed s p written line k k' is line_is))
+  held_unkept s p (unheld.Failed why) line k k' is line_is = inr (inl (held_failed s p why line k k' is line_is))
   held_unkept s p why line k k' is line_is =
       inl (is.0, inr (why, is.2, line_is, refl), inl (refl, is.1))
 
   held_lost_as : (s : BookRunState) (p : Placement) (why : HeldRefusal) (k k' : S) → IsHeldUnkept spec s p text k why k'
       → (k' ≡ k) ⊎ ((line : List ℕ) × (t : BookRunState) × IsRowFailed spec s fields (book_row.Held p) line t k k')
   held_lost_as s p unheld.Stopped k k' is = inl is.1
-  held_lost_as s p (unheld.Keep written) k k' is = inr (refused_held_line (id_of p) (unheld.Keep written), after_refusal s, held_failed s p written (refused_held_line (id_of p) (unheld.Keep written)) k k' is refl)
+  held_lost_as s p (unheld.Failed why) k k' is = inr (refused_held_line (id_of p) (unheld.Failed why), after_refusal s, held_failed s p why (refused_held_line (id_of p) (unheld.Failed why)) k k' is refl)
   held_lost_as s p why k k' is = inl is.1
 
   -- If memory is refused for the line that refuses a `held` row, nothing is kept, or the row's

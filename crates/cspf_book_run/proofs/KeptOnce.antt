@@ -22,6 +22,10 @@ use Rattle.cspf_book.specs.LinkFigures.{figures_at}
 use Rattle.cspf_book.specs.Placements.{placement_of}
 use Rattle.cspf_book_run.proofs.BookOneReply.{SameBookReply, ask_once, book_row_once}
 use Rattle.cspf_book_run.proofs.Looks.{shown_once, left_once}
+use Rattle.cspf_book_run.specs.WriteFaultWords.{batch_refusal_of}
+use Rattle.cspf_stream.specs.declared.batch_refusal.BatchRefusal.{BatchRefusal}
+use Rattle.cspf_book_run.specs.declared.write_fault.WriteFault.{WriteFault}
+use Rattle.cspf_book_run.specs.declared.write_fault.WriteFault.TheVariants as write_fault
 
 -- ---- what is written
 
@@ -52,18 +56,17 @@ kept_grows place s t (fields ∷ rows) lines (line, next, more, (inr (inr one)),
 
 -- ---- one row
 
-end_unkept_once : (s : BookRunState) (asked : Step) (written : ℕ) (l m : List ℕ) (t u : BookRunState)
-    → IsEndUnkept (refusal.Keep written) s asked l t → IsEndUnkept (refusal.Keep written) s asked m u → SameBookReply l t m u
-end_unkept_once s (step.End number count) written l m t u a b = (a.0 ∙ sym b.0, a.1 ∙ sym b.1)
-end_unkept_once s other written l m t u a b = absurd a
+end_unkept_once : (s : BookRunState) (asked : Step) (why : BatchRefusal) (l m : List ℕ) (t u : BookRunState) → IsEndUnkept why s asked l t → IsEndUnkept why s asked m u → SameBookReply l t m u
+end_unkept_once s (step.End number count) why l m t u a b = (a.0 ∙ sym b.0, a.1 ∙ sym b.1)
+end_unkept_once s other why l m t u a b = absurd a
 
-cut_once : (s : BookRunState) (written : ℕ) (row : BookRow) (l m : List ℕ) (t u : BookRunState) → IsRowCut written s row l t → IsRowCut written s row m u → SameBookReply l t m u
-cut_once s written (book_row.Base row) l m t u a b = end_unkept_once s (step_of row) written l m t u a b
-cut_once s written (book_row.Place q hold) l m t u a b = (a.0 ∙ sym b.0, a.1 ∙ sym b.1)
-cut_once s written (book_row.Release id) l m t u a b = (a.0 ∙ sym b.0, a.1 ∙ sym b.1)
-cut_once s written (book_row.Held p) l m t u a b = (a.0 ∙ sym b.0, a.1 ∙ sym b.1)
-cut_once s written (book_row.Offer q hold) l m t u a b = (a.0 ∙ sym b.0, a.1 ∙ sym b.1)
-cut_once s written other l m t u a b = absurd a
+cut_once : (s : BookRunState) (why : WriteFault) (row : BookRow) (l m : List ℕ) (t u : BookRunState) → IsRowCut why s row l t → IsRowCut why s row m u → SameBookReply l t m u
+cut_once s why (book_row.Base row) l m t u a b = end_unkept_once s (step_of row) (batch_refusal_of why) l m t u a b
+cut_once s why (book_row.Place q hold) l m t u a b = (a.0 ∙ sym b.0, a.1 ∙ sym b.1)
+cut_once s why (book_row.Release id) l m t u a b = (a.0 ∙ sym b.0, a.1 ∙ sym b.1)
+cut_once s why (book_row.Held p) l m t u a b = (a.0 ∙ sym b.0, a.1 ∙ sym b.1)
+cut_once s why (book_row.Offer q hold) l m t u a b = (a.0 ∙ sym b.0, a.1 ∙ sym b.1)
+cut_once s why other l m t u a b = absurd a
 
 -- the result of reading a record as this row
 abbrev read_as : BookRow → Result BookRow BookRowError
@@ -151,9 +154,9 @@ module _ (best : OneBestAnswer) (reply : HasOneReplyLine) (one : OneRefusal) whe
         cut_length s.kept (kept_of s.run fields fault2.next) k.kept written2 kept2 fault2.part,
       ) in
       let row : fault.row ≡ fault2.row = one_row fault.row fault2.row (sym fault.read ∙ fault2.read) in
-      let refused : IsRowCut written s.run fault.row m k.run =
-      subst (λ (x : ℕ). IsRowCut x s.run fault.row m k.run) (sym size) (subst (λ (x : BookRow). IsRowCut written2 s.run x m k.run) (sym row) fault2.refused) in
-      let same = cut_once s.run written fault.row l m n.run k.run fault.refused refused in (
+      let refused : IsRowCut (write_fault.Keep written) s.run fault.row m k.run =
+      subst (λ (x : ℕ). IsRowCut (write_fault.Keep x) s.run fault.row m k.run) (sym size) (subst (λ (x : BookRow). IsRowCut (write_fault.Keep written2) s.run x m k.run) (sym row) fault2.refused) in
+      let same = cut_once s.run (write_fault.Keep written) fault.row l m n.run k.run fault.refused refused in (
         same.0,
         one_state n k same.1 (stops ∙ sym stops2)
             (kept ∙ ap (λ (x : ℕ). s.kept ++ take x (kept_of s.run fields fault.next)) size ∙ ap (λ (x : BookRunState). s.kept ++ take written2 (kept_of s.run fields x)) next ∙ sym kept2),

@@ -52,6 +52,9 @@ use Rattle.cspf_book_run.specs.declared.refusals.PlaceRefusal.TheVariants as unp
 use Rattle.cspf_book_run.specs.declared.refusals.ReleaseRefusal.{ReleaseRefusal}
 use Rattle.cspf_book_run.specs.declared.refusals.ReleaseRefusal.TheVariants as unreleased
 use Rattle.cspf_book_run.proofs.OverTexts.{IsFree, each_false, words, Skips, letter_o, free_address, skips_none, skips_byte, skips_free, skips_append, is_plain, skips_plain, skips_number, named, word_after, versioned, none_left}
+use Rattle.cspf_book_run.specs.WriteFaultWords.{write_fault_words}
+use Rattle.cspf_book_run.specs.declared.write_fault.WriteFault.{WriteFault}
+use Rattle.cspf_book_run.specs.declared.write_fault.WriteFault.TheVariants as write_fault
 
 -- ---- the parts of lines
 
@@ -104,16 +107,20 @@ skips_batch (refusal.Journal written) = named (codes "journal ") written refl
 skips_batch (refusal.Keep written) = named (codes "keep ") written refl
 skips_batch other = skips_plain (batch_words other) refl
 
+skips_fault : (why : WriteFault) → Skips (write_fault_words why)
+skips_fault (write_fault.Keep written) = named (codes "keep ") written refl
+skips_fault (write_fault.Journal written) = named (codes "journal ") written refl
+
 pub skips_unplaced : (why : PlaceRefusal) → Skips (place_words why)
-skips_unplaced (unplaced.Keep written) = named (codes "keep ") written refl
+skips_unplaced (unplaced.Failed why) = skips_fault why
 skips_unplaced other = skips_plain (place_words other) refl
 
 pub skips_unreleased : (why : ReleaseRefusal) → Skips (release_words why)
-skips_unreleased (unreleased.Keep written) = named (codes "keep ") written refl
+skips_unreleased (unreleased.Failed why) = skips_fault why
 skips_unreleased other = skips_plain (release_words other) refl
 
 pub skips_unheld : (why : HeldRefusal) → Skips (held_words why)
-skips_unheld (unheld.Keep written) = named (codes "keep ") written refl
+skips_unheld (unheld.Failed why) = skips_fault why
 skips_unheld other = skips_plain (held_words other) refl
 
 -- ---- the lines

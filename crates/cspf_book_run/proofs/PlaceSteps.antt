@@ -28,6 +28,7 @@ use Rattle.cspf_book_run.specs.KeptStates.{IsRowDone, IsRowFailed}
 use Rattle.cspf_book_run.specs.PlaceErrors.{refusal_of_placing}
 use Rattle.cspf_book_run.specs.declared.refusals.PlaceRefusal.TheVariants as unplaced
 use Rattle.cspf_book_run.proofs.ReplyLines.{line_of_route}
+use Rattle.cspf_book_run.specs.declared.write_fault.WriteFault.{WriteFault}
 
 -- ---- what the book does for a row
 
@@ -80,7 +81,7 @@ module _ {S : Type 0} (spec : KeepSpec S) (old new : BookState) (q : Request) (h
   pub unchanged : (why : VersionError PlaceError Unkept) → refusal_of_placing why ≡ None → IsUnplaced (KeeperRefuses spec) old q hold before why after → after.keeping ≡ before.keeping
   unchanged (version_error.Book why) is un = ap (λ (x : Keeper S). x.keeping) un.1
   unchanged (version_error.Taker unkept.Memory) is un = un.refused
-  unchanged (version_error.Taker (unkept.Failed written)) is un = absurd (cc is)
+  unchanged (version_error.Taker (unkept.Failed why)) is un = absurd (cc is)
 
   -- If the book doesn't place a request, or the row's text isn't kept, the row is refused for the right
   -- reason.
@@ -105,15 +106,15 @@ module _ {S : Type 0} (spec : KeepSpec S) (old new : BookState) (q : Request) (h
       subst (λ (r : PlaceRefusal). IsPlaceUnkept spec s q hold text before.keeping r after.keeping) e
       (going, ap (λ (x : Keeper S). x.keeping) un.1, (subst (λ (b : BookState). b.version < 900000) same room, subst (λ (b : BookState). IsPlaceError b q TooLong) same un.0))
   unplaced_by text text_is room going (version_error.Taker unkept.Memory) refusal is un s same = absurd (cc is)
-  unplaced_by text text_is room going (version_error.Taker (unkept.Failed written)) refusal is un s same =
-      let e : unplaced.Keep written ≡ refusal = cc is in
+  unplaced_by text text_is room going (version_error.Taker (unkept.Failed why)) refusal is un s same =
+      let e : unplaced.Failed why ≡ refusal = cc is in
       let line = line_of_route q.id (un.t.version - s.skipped) un.walk in
       subst (λ (r : PlaceRefusal). IsPlaceUnkept spec s q hold text before.keeping r after.keeping) e (
         going,
         line.0,
         un.t,
         placed old un.t s.skipped q hold (route un.walk) (un.t.version - s.skipped) line.0 room un.room un.best un.placed refl line.1 s same refl,
-        (un.batch, subst (λ (b : BookState). LeadsTo b un.batch un.t) same un.moves.leads, subst (λ (x : List ℕ). spec.fails before.keeping x un.batch written after.keeping) text_is un.refused),
+        (un.batch, subst (λ (b : BookState). LeadsTo b un.batch un.t) same un.moves.leads, subst (λ (x : List ℕ). spec.fails before.keeping x un.batch why after.keeping) text_is un.refused),
       )
 
 -- ---- errors
@@ -159,58 +160,58 @@ module _ {S : Type 0} (spec : KeepSpec S) (fields : List (List ℕ)) (text : Lis
   kept_row old new s k k' same kept =
       subst (λ (b : BookState). IsKeptIfNew spec b new k (own_text fields) k') same (subst (λ (x : List ℕ). IsKeptIfNew spec old new k x k') text_is kept)
 
-  pub cut_row : (written : ℕ) (s t : BookState) (k k' : S) → IsCutWith spec s t written k text k' → IsCutWith spec s t written k (own_text fields) k'
-  cut_row written s t k k' cut = subst (λ (x : List ℕ). IsCutWith spec s t written k x k') text_is cut
+  pub cut_row : (why : WriteFault) (s t : BookState) (k k' : S) → IsCutWith spec s t why k text k' → IsCutWith spec s t why k (own_text fields) k'
+  cut_row why s t k k' cut = subst (λ (x : List ℕ). IsCutWith spec s t why k x k') text_is cut
 
   -- The text of a `place` row isn't kept.
-  place_failed : (s : BookRunState) (q : Request) (hold written : ℕ) (line : List ℕ) (k k' : S) → IsPlaceUnkept spec s q hold text k (unplaced.Keep written) k'
-      → line ≡ refused_place_line q.id (unplaced.Keep written) → IsRowFailed spec s fields (book_row.Place q hold) line (after_refusal s) k k'
-  place_failed s q hold written line k k' (going, lines, book, answered, cut) line_is = record {
-    written = written;
+  place_failed : (s : BookRunState) (q : Request) (hold : ℕ) (why : WriteFault) (line : List ℕ) (k k' : S) → IsPlaceUnkept spec s q hold text k (unplaced.Failed why) k'
+      → line ≡ refused_place_line q.id (unplaced.Failed why) → IsRowFailed spec s fields (book_row.Place q hold) line (after_refusal s) k k'
+  place_failed s q hold why line k k' (going, lines, book, answered, cut) line_is = record {
+    why = why;
     lines = lines;
     next = after_answer s book;
     going = going;
     accepted = inl (answered, refl);
-    cut_off = cut_row written s.book book k k' cut;
+    cut_off = cut_row why s.book book k k' cut;
     refused = (line_is, refl);
   }
 
-  release_failed : (s : BookRunState) (id written : ℕ) (line : List ℕ) (k k' : S) → IsReleaseUnkept spec s id text k (unreleased.Keep written) k'
-      → line ≡ refused_release_line id (unreleased.Keep written) → IsRowFailed spec s fields (book_row.Release id) line (after_refusal s) k k'
-  release_failed s id written line k k' (going, room, has, cut) line_is = record {
-    written = written;
+  release_failed : (s : BookRunState) (id : ℕ) (why : WriteFault) (line : List ℕ) (k k' : S) → IsReleaseUnkept spec s id text k (unreleased.Failed why) k'
+      → line ≡ refused_release_line id (unreleased.Failed why) → IsRowFailed spec s fields (book_row.Release id) line (after_refusal s) k k'
+  release_failed s id why line k k' (going, room, has, cut) line_is = record {
+    why = why;
     lines = released_line id (s.book.version + 1 - s.skipped);
     next = after_release s id;
     going = going;
     accepted = inl (room, has, refl, refl);
-    cut_off = cut_row written s.book (after_release s id).book k k' cut;
+    cut_off = cut_row why s.book (after_release s id).book k k' cut;
     refused = (line_is, refl);
   }
 
   place_unkept : (s : BookRunState) (q : Request) (hold : ℕ) (why : PlaceRefusal) (line : List ℕ) (k k' : S) → IsPlaceUnkept spec s q hold text k why k'
       → line ≡ refused_place_line q.id why → IsRowDone spec s fields (book_row.Place q hold) line (after_refusal s) k k'
   place_unkept s q hold unplaced.Stopped line k k' is line_is = inr (inr (is.0, (line_is, refl), is.1))
-  place_unkept s q hold (unplaced.Keep written) line k k' is line_is = inr (inl (place_failed s q hold written line k k' is line_is))
+  place_unkept s q hold (unplaced.Failed why) line k k' is line_is = inr (inl (place_failed s q hold why line k k' is line_is))
   place_unkept s q hold why line k k' is line_is =
       inl (is.0, inr (why, is.2, line_is, refl), inl (refl, is.1))
 
   release_unkept : (s : BookRunState) (id : ℕ) (why : ReleaseRefusal) (line : List ℕ) (k k' : S) → IsReleaseUnkept spec s id text k why k'
       → line ≡ refused_release_line id why → IsRowDone spec s fields (book_row.Release id) line (after_refusal s) k k'
   release_unkept s id unreleased.Stopped line k k' is line_is = inr (inr (is.0, (line_is, refl), is.1))
-  release_unkept s id (unreleased.Keep written) line k k' is line_is = inr (inl (release_failed s id written line k k' is line_is))
+  release_unkept s id (unreleased.Failed why) line k k' is line_is = inr (inl (release_failed s id why line k k' is line_is))
   release_unkept s id why line k k' is line_is =
       inl (is.0, inr (why, is.2, line_is, refl), inl (refl, is.1))
 
   place_lost_as : (s : BookRunState) (q : Request) (hold : ℕ) (why : PlaceRefusal) (k k' : S) → IsPlaceUnkept spec s q hold text k why k'
       → (k' ≡ k) ⊎ ((line : List ℕ) × (t : BookRunState) × IsRowFailed spec s fields (book_row.Place q hold) line t k k')
   place_lost_as s q hold unplaced.Stopped k k' is = inl is.1
-  place_lost_as s q hold (unplaced.Keep written) k k' is = inr (refused_place_line q.id (unplaced.Keep written), after_refusal s, place_failed s q hold written (refused_place_line q.id (unplaced.Keep written)) k k' is refl)
+  place_lost_as s q hold (unplaced.Failed why) k k' is = inr (refused_place_line q.id (unplaced.Failed why), after_refusal s, place_failed s q hold why (refused_place_line q.id (unplaced.Failed why)) k k' is refl)
   place_lost_as s q hold why k k' is = inl is.1
 
   release_lost_as : (s : BookRunState) (id : ℕ) (why : ReleaseRefusal) (k k' : S) → IsReleaseUnkept spec s id text k why k'
       → (k' ≡ k) ⊎ ((line : List ℕ) × (t : BookRunState) × IsRowFailed spec s fields (book_row.Release id) line t k k')
   release_lost_as s id unreleased.Stopped k k' is = inl is.1
-  release_lost_as s id (unreleased.Keep written) k k' is = inr (refused_release_line id (unreleased.Keep written), after_refusal s, release_failed s id written (refused_release_line id (unreleased.Keep written)) k k' is refl)
+  release_lost_as s id (unreleased.Failed why) k k' is = inr (refused_release_line id (unreleased.Failed why), after_refusal s, release_failed s id why (refused_release_line id (unreleased.Failed why)) k k' is refl)
   release_lost_as s id why k k' is = inl is.1
 
   -- If memory is refused for the line that refuses a `place` or `release` row, nothing is kept,

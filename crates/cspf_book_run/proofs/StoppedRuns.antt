@@ -23,10 +23,11 @@ use Rattle.cspf_book_run.specs.BookRows.{book_row_of}
 use Rattle.cspf_book_run.specs.BookScript.{BookRunState, changers, after_refusal}
 use Rattle.cspf_book_run.specs.Kept.{kept_of}
 use Rattle.cspf_book_run.specs.KeptLaws.{IsKeptThroughout, StopsAtOneRow, RunsStopOnce, KeptIsTheBook, KeptRunIsTheBook, RemakesBook}
-use Rattle.cspf_book_run.specs.KeptRuns.{KeptRunState, RowRefusals, by_stopped, by_keep, kept_start, kept_run_answers, stopped_answers, IsEndUnkept, IsRowUnkept, IsStepStopped, IsAnsweredStopped, IsRowWritten, IsRowCutOff}
+use Rattle.cspf_book_run.specs.KeptRuns.{KeptRunState, RowRefusals, by_stopped, by_fault, kept_start, kept_run_answers, stopped_answers, IsEndUnkept, IsRowUnkept, IsStepStopped, IsAnsweredStopped, IsRowWritten, IsRowCutOff}
 use Rattle.cspf_book_run.proofs.KeptOnce.{stays_stopped}
 use Rattle.cspf_book_run.proofs.OverOnly.{skips_refused, skips_batch, skips_unplaced, skips_unreleased, skips_unheld, skips_look, skips_room, step_says, row_says, says_none_over}
 use Rattle.cspf_book_run.proofs.OverTexts.{Skips, skips_none, skips_append}
+use Rattle.cspf_book_run.specs.declared.write_fault.WriteFault.TheVariants as fault
 
 -- ---- rows that leave the book unchanged
 
@@ -138,7 +139,7 @@ stops_here place s next t fields rows lines line more cut whole rest =
     let last = stays_stopped (suc place) next t rows more rest cut.1 in
     let later = later_rows (suc place) next t rows more rest cut.1 in
     let left = rows_leave (suc place) next.run t.run rows more later in
-    let refused = unkept_leaves (by_keep cut.2) s.run next.run cut.3.row line cut.3.refused in
+    let refused = unkept_leaves (by_fault (fault.Keep cut.2)) s.run next.run cut.3.row line cut.3.refused in
     let here : place + 0 ≡ place = omega arith in
     record {
       done = [];

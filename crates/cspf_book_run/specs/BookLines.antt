@@ -5,6 +5,7 @@ use Rattle.cspf_addr.specs.AddressText.{address_text}
 use Rattle.cspf_model.specs.Best.{Answer}
 use Rattle.cspf_ero.specs.ReplyLine.{IsReply}
 use Rattle.cspf_book.specs.declared.over.Over.{Over}
+use Rattle.cspf_book_run.specs.WriteFaultWords.{write_fault_words}
 use Rattle.cspf_book_run.specs.declared.refusals.PlaceRefusal.{PlaceRefusal}
 use Rattle.cspf_book_run.specs.declared.refusals.PlaceRefusal.TheVariants as place
 use Rattle.cspf_book_run.specs.declared.refusals.ReleaseRefusal.{ReleaseRefusal}
@@ -40,7 +41,7 @@ place_words place.Full = codes "full"
 place_words place.Links = codes "links"
 place_words place.Twice = codes "twice"
 place_words place.Long = codes "long"
-place_words (place.Keep written) = codes "keep " ++ decimal written
+place_words (place.Failed fault) = write_fault_words fault
 
 -- the line that says why the request with this id isn't placed
 abbrev pub refused_place_line : ℕ → PlaceRefusal → List ℕ
@@ -51,7 +52,7 @@ abbrev pub release_words : ReleaseRefusal → List ℕ
 release_words release.Stopped = codes "stopped"
 release_words release.Exhausted = codes "exhausted"
 release_words release.Absent = codes "absent"
-release_words (release.Keep written) = codes "keep " ++ decimal written
+release_words (release.Failed fault) = write_fault_words fault
 
 -- the line that says why no placement with this id is released
 abbrev pub refused_release_line : ℕ → ReleaseRefusal → List ℕ

@@ -75,6 +75,11 @@ book_start = record {
   skipped = 0;
 }
 
+-- The state before the first row of a run that goes on with the book of the state `s`. The first
+-- `skipped` versions of the book aren't counted where lines name a version.
+abbrev pub going_on : BookRunState → ℕ → BookRunState
+going_on s skipped = record s { changes = []; answers = 0; refused = 0; skipped = skipped }
+
 -- the number by which lines name this version of the book
 abbrev pub name_of : BookRunState → ℕ → ℕ
 name_of s version = version - s.skipped
@@ -162,7 +167,7 @@ IsAskAnswered s q line after =
     (answer : Answer) × IsBestAnswer (effective s.book.base s.book.placements) q answer
     × IsReply q.id (name_of s s.book.version) answer line × (after ≡ after_answer s s.book)
 
--- Why a request isn't placed. The first of these reasons that applies is given. `Stopped` and `Keep`
+-- Why a request isn't placed. The first of these reasons that applies is given. `Stopped` and `Failed`
 -- never apply here, because no write fails.
 abbrev pub IsPlaceRefusal : BookRunState → Request → PlaceRefusal → Type 0
 IsPlaceRefusal s q unplaced.Exhausted = MOST_PLACING_VERSIONS ≤ s.book.version
@@ -191,7 +196,7 @@ IsPlaceTaken s q hold line after =
     ⊎ ((why : PlaceRefusal) × IsPlaceRefusal s q why × (line ≡ refused_place_line q.id why) × (after ≡ after_refusal s))
 
 -- Why no placement with this id is released. The first of these reasons that applies is given.
--- `Stopped` and `Keep` never apply here, because no write fails.
+-- `Stopped` and `Failed` never apply here, because no write fails.
 abbrev pub IsReleaseRefusal : BookRunState → ℕ → ReleaseRefusal → Type 0
 IsReleaseRefusal s id unreleased.Exhausted = MOST_PLACING_VERSIONS ≤ s.book.version
 IsReleaseRefusal s id unreleased.Absent = (s.book.version < MOST_PLACING_VERSIONS) × (¬ IsTrue (has_id id s.book.placements))
@@ -205,7 +210,7 @@ IsReleaseTaken s id line after =
     ⊎ ((why : ReleaseRefusal) × IsReleaseRefusal s id why × (line ≡ refused_release_line id why) × (after ≡ after_refusal s))
 
 -- Why a placement isn't restored. The first of these reasons that applies is given. `Stopped` and
--- `Keep` never apply here, because no write fails.
+-- `Failed` never apply here, because no write fails.
 abbrev pub IsHeldRefusal : BookRunState → Placement → HeldRefusal → Type 0
 IsHeldRefusal s p unheld.Exhausted = MOST_PLACING_VERSIONS ≤ s.book.version
 IsHeldRefusal s p unheld.SameId = (s.book.version < MOST_PLACING_VERSIONS) × IsRestoreError s.book.placements p unrestored.SameId

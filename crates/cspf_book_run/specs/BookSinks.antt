@@ -28,6 +28,8 @@ use Rattle.cspf_book_run.specs.declared.refusals.PlaceRefusal.{PlaceRefusal}
 use Rattle.cspf_book_run.specs.declared.refusals.PlaceRefusal.TheVariants as unplaced
 use Rattle.cspf_book_run.specs.declared.refusals.ReleaseRefusal.{ReleaseRefusal}
 use Rattle.cspf_book_run.specs.declared.refusals.ReleaseRefusal.TheVariants as unreleased
+use Rattle.cspf_book_run.specs.declared.write_fault.WriteFault.{WriteFault}
+use Rattle.cspf_book_run.specs.declared.write_fault.WriteFault.TheVariants as fault
 
 -- the book, the number of accepted base batches, how many of the book's first versions aren't counted
 -- where lines name a version, and what keeps the texts of accepted rows
@@ -61,13 +63,18 @@ IsHeldSaid s p lines book =
     × (lines ≡ held_lines s p) × (book ≡ (after_held s p).book)
 
 module _ {S : Type 0} (spec : KeepSpec S) where
-  -- Why a base batch isn't accepted: it doesn't fit the base, or its text isn't kept. Lines of the
-  -- batch were made before.
+  -- The base batch fits, but its text isn't kept, since this write failed. Lines of the batch were
+  -- made before.
+  abbrev pub IsBatchCut : BookSinkState S → NumberedChanges → WriteFault → BookSinkState S → Type 0
+  IsBatchCut old b fault new =
+      Fits old.book.base b × (lines : List ℕ) × AreBaseLines (book_state_with old b.changes) b.number lines
+      × IsCutWith spec old.book (after_base_batch (book_state_with old b.changes)).book fault old.keeping (batch_text b) new.keeping
+
+  -- Why a base batch isn't accepted: it doesn't fit the base, or its text isn't kept.
   abbrev pub IsBatchUnkept : BookSinkState S → NumberedChanges → BatchRefusal → BookSinkState S → Type 0
   IsBatchUnkept old b (refusal.Unfit why) new = IsRefusal old.book.base b why × (new.keeping ≡ old.keeping)
-  IsBatchUnkept old b (refusal.Keep written) new =
-      Fits old.book.base b × (lines : List ℕ) × AreBaseLines (book_state_with old b.changes) b.number lines
-      × IsCutWith spec old.book (after_base_batch (book_state_with old b.changes)).book written old.keeping (batch_text b) new.keeping
+  IsBatchUnkept old b (refusal.Keep written) new = IsBatchCut old b (fault.Keep written) new
+  IsBatchUnkept old b (refusal.Journal written) new = IsBatchCut old b (fault.Journal written) new
   IsBatchUnkept old b other new = ⊥
 
   -- what a book does as a sink: it accepts the base batches that fit its base and whose text is
@@ -93,24 +100,24 @@ module _ {S : Type 0} (spec : KeepSpec S) where
   -- reason of the book.
   abbrev pub IsPlaceUnkept : BookRunState → Request → ℕ → List ℕ → S → PlaceRefusal → S → Type 0
   IsPlaceUnkept s q hold text old unplaced.Stopped new = (spec.stopped old ≡ true) × (new ≡ old)
-  IsPlaceUnkept s q hold text old (unplaced.Keep written) new =
-      (spec.stopped old ≡ false) × (line : List ℕ) × (book : BookState) × IsPlaceAnswered s q hold line book × IsCutWith spec s.book book written old text new
+  IsPlaceUnkept s q hold text old (unplaced.Failed fault) new =
+      (spec.stopped old ≡ false) × (line : List ℕ) × (book : BookState) × IsPlaceAnswered s q hold line book × IsCutWith spec s.book book fault old text new
   IsPlaceUnkept s q hold text old other new = (spec.stopped old ≡ false) × (new ≡ old) × IsPlaceRefusal s q other
 
   -- why a `release` row is refused, in the same way
   abbrev pub IsReleaseUnkept : BookRunState → ℕ → List ℕ → S → ReleaseRefusal → S → Type 0
   IsReleaseUnkept s id text old unreleased.Stopped new = (spec.stopped old ≡ true) × (new ≡ old)
-  IsReleaseUnkept s id text old (unreleased.Keep written) new =
+  IsReleaseUnkept s id text old (unreleased.Failed fault) new =
       (spec.stopped old ≡ false) × (s.book.version < MOST_PLACING_VERSIONS) × IsTrue (has_id id s.book.placements)
-      × IsCutWith spec s.book (after_release s id).book written old text new
+      × IsCutWith spec s.book (after_release s id).book fault old text new
   IsReleaseUnkept s id text old other new = (spec.stopped old ≡ false) × (new ≡ old) × IsReleaseRefusal s id other
 
   -- why a `held` row is refused, in the same way
   abbrev pub IsHeldUnkept : BookRunState → Placement → List ℕ → S → HeldRefusal → S → Type 0
   IsHeldUnkept s p text old unheld.Stopped new = (spec.stopped old ≡ true) × (new ≡ old)
-  IsHeldUnkept s p text old (unheld.Keep written) new =
+  IsHeldUnkept s p text old (unheld.Failed fault) new =
       (spec.stopped old ≡ false) × (s.book.version < MOST_PLACING_VERSIONS) × MayBeAdded s.book.placements p
-      × IsCutWith spec s.book (after_held s p).book written old text new
+      × IsCutWith spec s.book (after_held s p).book fault old text new
   IsHeldUnkept s p text old other new = (spec.stopped old ≡ false) × (new ≡ old) × IsHeldRefusal s p other
 
   -- Why an `offer` row is refused. Nothing is kept for it.

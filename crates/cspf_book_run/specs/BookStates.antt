@@ -1,5 +1,4 @@
--- Private: how the code stores the state of a run, and how the answer to one row changes this
--- state.
+-- How the code stores the state of a run, and how the answer to one row changes this state.
 use Rattle.std.specs.Prelude.{◌≡◌, ℕ, ◌+◌, ◌<◌, ◌≤◌}
 use Rattle.cspf_rows.specs.declared.limits.TheConstants.{MOST_ROWS}
 use Rattle.cspf_stream.specs.OpenChanges.{AreOpen}

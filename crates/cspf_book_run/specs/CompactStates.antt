@@ -4,9 +4,11 @@ use Rattle.std.specs.List.{AllByRecursion}
 use Rattle.cspf_book.specs.PlacedRoutes.{ArePlaced}
 use Rattle.cspf_stream.specs.declared.error.StreamStop.{StreamStop}
 use Rattle.cspf_stream.specs.declared.error.StreamStop.TheVariants as stream_stop
+use Rattle.cspf_book_run.specs.declared.book_rows.BookRows.{BookRows}
 use Rattle.cspf_book_run.specs.declared.compact_run.CompactRows.{CompactRows}
 use Rattle.cspf_book_run.specs.declared.compact_stop.CompactStop.{CompactStop}
 use Rattle.cspf_book_run.specs.declared.compact_stop.CompactStop.TheVariants as stop
+use Rattle.cspf_book_run.specs.declared.keeper.KeepsNothing.{KeepsNothing}
 use Rattle.cspf_book_run.specs.BookScript.{book_answers}
 use Rattle.cspf_book_run.specs.BookStates.{IsBookBefore, BookLeads}
 use Rattle.cspf_book_run.specs.Compacts.{IsCompact, CompactsMakeBooks}
@@ -39,14 +41,18 @@ abbrev pub compact_stop_of : StreamStop CompactStop → CompactStop
 compact_stop_of (stream_stop.Stream why) = stop.Stream why
 compact_stop_of (stream_stop.Answer why) = why
 
--- No changes are open, and the text is the compact stream of the book, which makes the base and the
--- placements of the book.
-pub record IsBookCompact (k : CompactRows) (text : List ℕ) : Type 0 where
-  pub closed : k.rows.rows.changes.count ≡ 0
-  pub placed : ArePlaced k.rows.rows.sink.book.placements
-  pub range : AllByRecursion IsPlacementInRange k.rows.rows.sink.book.placements
-  pub compact : IsCompact k.rows.rows.sink.book.base k.rows.rows.sink.book.placements text
+-- The text is the compact stream of the book, which makes the base and the placements of the book.
+pub record IsBookCompact (k : BookRows KeepsNothing) (text : List ℕ) : Type 0 where
+  pub placed : ArePlaced k.rows.sink.book.placements
+  pub range : AllByRecursion IsPlacementInRange k.rows.sink.book.placements
+  pub compact : IsCompact k.rows.sink.book.base k.rows.sink.book.placements text
   pub make : CompactsMakeBooks
+
+-- memory is refused, or a read fails
+abbrev pub IsReadingStop : CompactStop → Type 0
+IsReadingStop (stop.Stream why) = Unit {0}
+IsReadingStop (stop.Refused row line) = ⊥
+IsReadingStop (stop.Unended line) = ⊥
 
 -- why no compact stream is made after the last row
 abbrev pub IsOpenStop : CompactRows → CompactStop → Type 0

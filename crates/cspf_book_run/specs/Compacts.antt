@@ -1,6 +1,6 @@
 -- The compact stream of rows that makes the base and the placements of a book, and the run that
 -- makes it of a stream.
-use Rattle.std.specs.Prelude.{◌≡◌, ◌<◌, ◌≤◌, ◌+◌, ℕ, List, [], ◌∷◌, ◌++◌, length}
+use Rattle.std.specs.Prelude.{◌≡◌, ◌<◌, ◌≤◌, ◌+◌, ℕ, List, [], ◌∷◌, ◌++◌, length, Option, IfSome}
 use Rattle.std.specs.List.{flat_map, AllByRecursion}
 use Rattle.cspf_model.specs.Database.{Database}
 use Rattle.cspf_model.specs.Numbered.{NumberedChanges}
@@ -12,8 +12,10 @@ use Rattle.cspf_book.specs.declared.placement.Placement.{Placement}
 use Rattle.cspf_book.specs.BookState.{BookState}
 use Rattle.cspf_book.specs.PlacedRoutes.{ArePlaced}
 use Rattle.cspf_book_run.specs.BookScript.{BookRunState, book_answers, AreBookRowsAnswered}
+use Rattle.cspf_book_run.specs.declared.book_rows.BookRows.{BookRows}
 use Rattle.cspf_book_run.specs.declared.compact_stop.CompactStop.{CompactStop}
 use Rattle.cspf_book_run.specs.declared.compact_stop.CompactStop.TheVariants as stop
+use Rattle.cspf_book_run.specs.BookStates.{KeepsBook}
 use Rattle.cspf_book_run.specs.HeldRows.{held_text, IsWritable}
 
 -- The text is a snapshot of the base, and then the `held` row of each placement, in their order. The
@@ -45,6 +47,11 @@ CompactsMakeBooks =
 -- All of the rows are answered, and none is refused.
 abbrev pub AreAllTaken : List (List (List ℕ)) → BookRunState → Type 0
 AreAllTaken rows after = (lines : List ℕ) × AreBookRowsAnswered rows lines after × (after.refused ≡ 0)
+
+-- The code's rows store the state after all of the rows, in which no change is open. If the rows are
+-- known, none of them is refused.
+abbrev pub IsBookRead : {S : Type 0} → Option (List (List (List ℕ))) → BookRows S → Type 0
+IsBookRead all k = (after : BookRunState) × KeepsBook k.rows after × (after.changes ≡ []) × IfSome all (λ rows. AreAllTaken rows after)
 
 -- The text is the compact stream of the book that a run over the rows makes. The run refuses no
 -- row, and at its end no changes are open. A run over the text makes the same base and placements.

@@ -1,4 +1,4 @@
--- Private: how the text of a row is kept before the book has the row's version.
+-- How the text of a row is kept before the book has the row's version.
 use Rattle.std.specs.Prelude.{◌≡◌, ℕ, ◌<◌, ◌⊎◌, Bool, true, false, List, take, length, Option}
 use Rattle.std.specs.Io.KnownBytes.{Appends}
 use Rattle.cspf_model.specs.Best.{Answer, route}
@@ -10,6 +10,8 @@ use Rattle.cspf_book_run.specs.declared.keeper.Keeping.{Keeping}
 use Rattle.cspf_book_run.specs.declared.keeper.KeepsNothing.{KeepsNothing}
 use Rattle.cspf_book_run.specs.declared.keeper.Unkept.{Unkept}
 use Rattle.cspf_book_run.specs.declared.keeper.Unkept.TheVariants as unkept
+use Rattle.cspf_book_run.specs.declared.write_fault.WriteFault.{WriteFault}
+use Rattle.cspf_book_run.specs.declared.write_fault.WriteFault.TheVariants as fault
 
 -- The line answers a `place` row. If the answer is a route, it is the line `made`.
 abbrev pub IsLineOf : List ℕ → ℕ → ℕ → Answer → List ℕ → Type 0
@@ -28,24 +30,23 @@ pub record KeepSpec (S : Type 0) : Type 1 where
   -- In the first state it keeps the text of the version that the batch makes, and goes to the second
   -- state.
   pub keeps : S → List ℕ → NumberedChanges → S → Type 0
-  -- In the first state it fails to keep this text after so many of its bytes, and goes to the second
+  -- In the first state it fails to keep this text, since this write failed, and goes to the second
   -- state.
-  pub fails : S → List ℕ → NumberedChanges → ℕ → S → Type 0
+  pub fails : S → List ℕ → NumberedChanges → WriteFault → S → Type 0
 
 module _ {S : Type 0} (spec : KeepSpec S) where
   -- The text isn't kept. If memory is refused, nothing has changed.
   abbrev pub IsUnkept : S → List ℕ → NumberedChanges → Unkept → S → Type 0
   IsUnkept old text b unkept.Memory new = new ≡ old
-  IsUnkept old text b (unkept.Failed written) new = spec.fails old text b written new
+  IsUnkept old text b (unkept.Failed fault) new = spec.fails old text b fault new
 
   -- The text is kept with the batch that leads from the book `s` to the book `t`.
   abbrev pub IsKeptWith : BookState → BookState → S → List ℕ → S → Type 0
   IsKeptWith s t old text new = (b : NumberedChanges) × LeadsTo s b t × spec.keeps old text b new
 
-  -- The text isn't kept, since a write failed after so many of its bytes. The batch leads from the
-  -- book `s` to the book `t`.
-  abbrev pub IsCutWith : BookState → BookState → ℕ → S → List ℕ → S → Type 0
-  IsCutWith s t written old text new = (b : NumberedChanges) × LeadsTo s b t × spec.fails old text b written new
+  -- The text isn't kept, since this write failed. The batch leads from the book `s` to the book `t`.
+  abbrev pub IsCutWith : BookState → BookState → WriteFault → S → List ℕ → S → Type 0
+  IsCutWith s t fault old text new = (b : NumberedChanges) × LeadsTo s b t × spec.fails old text b fault new
 
   -- The book goes from `s` to `t`. If this is a new version, the row's text is kept, and otherwise
   -- nothing is kept.
@@ -64,12 +65,17 @@ module _ {K : Type 0} (contents : K → Option (List ℕ)) where
     pub part : written < length text
     pub front : Appends (contents old.keep) (contents new.keep) (take written text)
 
+  -- Only a write to the writer `keep` can fail.
+  abbrev pub IsWriteFailed : Keeping K → List ℕ → WriteFault → Keeping K → Type 0
+  IsWriteFailed old text (fault.Keep written) new = IsTextCutOff written old text new
+  IsWriteFailed old text (fault.Journal written) new = ⊥
+
   -- The texts are written to the writer `keep`.
   abbrev pub writer_spec : KeepSpec (Keeping K)
   writer_spec = record {
     stopped = λ k. k.stopped;
     keeps = λ old text b new. IsTextWritten old text new;
-    fails = λ old text b written new. IsTextCutOff written old text new;
+    fails = λ old text b why new. IsWriteFailed old text why new;
   }
 
 -- Nothing is kept, and that never fails.
@@ -77,5 +83,5 @@ abbrev pub nothing_spec : KeepSpec KeepsNothing
 nothing_spec = record {
   stopped = λ k. false;
   keeps = λ old text b new. new ≡ old;
-  fails = λ old text b written new. ⊥;
+  fails = λ old text b why new. ⊥;
 }

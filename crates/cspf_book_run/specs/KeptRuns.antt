@@ -15,6 +15,7 @@ use Rattle.cspf_solve.specs.Script.{is_too_many}
 use Rattle.cspf_book_run.specs.BookLines.{refused_place_line, refused_release_line}
 use Rattle.cspf_book_run.specs.BookRows.{book_row_of}
 use Rattle.cspf_book_run.specs.BookScript.{BookRunState, book_start, book_answers, book_summary_of, after_refusal, after_refused_base_batch, IsBookStepAnswered, IsBookRowTaken, IsBookRowAnswered}
+use Rattle.cspf_book_run.specs.WriteFaultWords.{batch_refusal_of}
 use Rattle.cspf_book_run.specs.Kept.{kept_of}
 use Rattle.cspf_book_run.specs.PlacementLines.{refused_held_line, refused_offer_line}
 use Rattle.cspf_book.specs.Placements.{id_of}
@@ -27,6 +28,8 @@ use Rattle.cspf_book_run.specs.declared.refusals.PlaceRefusal.{PlaceRefusal}
 use Rattle.cspf_book_run.specs.declared.refusals.PlaceRefusal.TheVariants as unplaced
 use Rattle.cspf_book_run.specs.declared.refusals.ReleaseRefusal.{ReleaseRefusal}
 use Rattle.cspf_book_run.specs.declared.refusals.ReleaseRefusal.TheVariants as unreleased
+use Rattle.cspf_book_run.specs.declared.write_fault.WriteFault.{WriteFault}
+use Rattle.cspf_book_run.specs.declared.write_fault.WriteFault.TheVariants as fault
 
 -- the state of a run between two rows
 pub record KeptRunState : Type 0 where
@@ -59,13 +62,13 @@ pub record RowRefusals : Type 0 where
 abbrev pub by_stopped : RowRefusals
 by_stopped = record { batch = refusal.Stopped; place = unplaced.Stopped; release = unreleased.Stopped; held = unheld.Stopped }
 
--- Each kind of rows is refused by `keep W`, where W is `written`.
-abbrev pub by_keep : ℕ → RowRefusals
-by_keep written = record {
-  batch = refusal.Keep written;
-  place = unplaced.Keep written;
-  release = unreleased.Keep written;
-  held = unheld.Keep written;
+-- Each kind of rows is refused because this write failed.
+abbrev pub by_fault : WriteFault → RowRefusals
+by_fault why = record {
+  batch = batch_refusal_of why;
+  place = unplaced.Failed why;
+  release = unreleased.Failed why;
+  held = unheld.Failed why;
 }
 
 -- A row is refused for one of these reasons, each for its kind. The book is unchanged. An `offer`
@@ -78,9 +81,9 @@ IsRowUnkept why s (book_row.Held p) line after = (line ≡ refused_held_line (id
 IsRowUnkept why s (book_row.Offer q hold) line after = (line ≡ refused_offer_line q.id why.place) × (after ≡ after_refusal s)
 IsRowUnkept why s other line after = ⊥
 
--- The row is refused by `keep W`, where W is `written`.
-abbrev pub IsRowCut : ℕ → BookRunState → BookRow → List ℕ → BookRunState → Type 0
-IsRowCut written s row line after = IsRowUnkept (by_keep written) s row line after
+-- The row is refused because this write failed.
+abbrev pub IsRowCut : WriteFault → BookRunState → BookRow → List ℕ → BookRunState → Type 0
+IsRowCut why s row line after = IsRowUnkept (by_fault why) s row line after
 
 -- A write of the row's text fails after the first `written` bytes. If all of the text were written,
 -- the row would be accepted, and `next` would be the state after it. Instead it is refused by `keep
@@ -92,7 +95,7 @@ pub record IsKeepFault (place : ℕ) (s : BookRunState) (fields : List (List ℕ
   pub part : written < length (kept_of s fields next)
   pub row : BookRow
   pub read : book_row_of fields ≡ Ok row
-  pub refused : IsRowCut written s row line after
+  pub refused : IsRowCut (fault.Keep written) s row line after
 
 -- How a row of the base is answered after a write has failed. Each end row is refused by `stopped`,
 -- before any other reason. Changes and requests are answered as before.

@@ -1,4 +1,4 @@
--- Private: how the code answers one row and keeps its text.
+-- How one row is answered and its text is kept.
 use Rattle.std.specs.Prelude.{◌≡◌, ℕ, ◌⊎◌, Bool, true, false, List, Result, Ok, Err}
 use Rattle.cspf_stream.specs.Lines.{last_line}
 use Rattle.cspf_stream.specs.declared.rows.Rows.{Rows}
@@ -12,17 +12,18 @@ use Rattle.cspf_book_run.specs.BookStates.{KeepsBook, BookLeads, CountsBookRow}
 use Rattle.cspf_book_run.specs.Kept.{text_of_row}
 use Rattle.cspf_book_run.specs.KeptRuns.{IsRowCut, IsTakenStopped}
 use Rattle.cspf_book_run.specs.Keeping.{KeepSpec, IsCutWith, IsKeptIfNew}
+use Rattle.cspf_book_run.specs.declared.write_fault.WriteFault.{WriteFault}
 
 module _ {S : Type 0} (spec : KeepSpec S) where
   -- The row would be accepted, but its text isn't kept, so it is refused.
   pub record IsRowFailed (s : BookRunState) (fields : List (List ℕ)) (row : BookRow) (line : List ℕ) (t : BookRunState) (old new : S) : Type 0 where
-    pub written : ℕ
+    pub why : WriteFault
     pub lines : List ℕ
     pub next : BookRunState
     pub going : spec.stopped old ≡ false
     pub accepted : IsBookRowTaken s row lines next
-    pub cut_off : IsCutWith spec s.book next.book written old (text_of_row s fields (Ok row)) new
-    pub refused : IsRowCut written s row line t
+    pub cut_off : IsCutWith spec s.book next.book why old (text_of_row s fields (Ok row)) new
+    pub refused : IsRowCut why s row line t
 
   -- A row whose fields could be read is answered. If it makes a new version, its text is kept. Or
   -- its text isn't kept, or it was stopped earlier.

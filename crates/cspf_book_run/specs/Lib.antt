@@ -2,6 +2,7 @@
 pub mod RouteText
 pub mod BookRows
 pub mod BookRowWords
+pub mod WriteFaultWords
 pub mod BookLines
 pub mod PlacementLines
 pub mod HeldRows

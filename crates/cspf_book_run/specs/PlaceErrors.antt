@@ -23,14 +23,14 @@ place_refusal_of place_error.Twice = Some unplaced.Twice
 place_refusal_of place_error.TooLong = Some unplaced.Long
 
 -- The refusal that the run writes if a request isn't placed: for a reason of the book, or because a
--- write of the row's text failed. If memory is refused, there is no refusal, and the run ends.
+-- write failed. If memory is refused, there is no refusal, and the run ends.
 abbrev pub refusal_of_placing : VersionError PlaceError Unkept → Option PlaceRefusal
 refusal_of_placing (version_error.Book why) = place_refusal_of why
 refusal_of_placing (version_error.Taker unkept.Memory) = None
-refusal_of_placing (version_error.Taker (unkept.Failed written)) = Some (unplaced.Keep written)
+refusal_of_placing (version_error.Taker (unkept.Failed fault)) = Some (unplaced.Failed fault)
 
 -- The refusal that the run writes if a placement isn't restored: for a reason of the book, or because
--- a write of the row's text failed. If memory is refused, there is no refusal, and the run ends.
+-- a write failed. If memory is refused, there is no refusal, and the run ends.
 abbrev pub refusal_of_restoring : VersionError RestoreError Unkept → Option HeldRefusal
 refusal_of_restoring (version_error.Book restore_error.SameId) = Some unheld.SameId
 refusal_of_restoring (version_error.Book restore_error.Full) = Some unheld.Full
@@ -39,4 +39,4 @@ refusal_of_restoring (version_error.Book restore_error.Twice) = Some unheld.Twic
 refusal_of_restoring (version_error.Book restore_error.TooManyLinks) = Some unheld.Links
 refusal_of_restoring (version_error.Book restore_error.Memory) = None
 refusal_of_restoring (version_error.Taker unkept.Memory) = None
-refusal_of_restoring (version_error.Taker (unkept.Failed written)) = Some (unheld.Keep written)
+refusal_of_restoring (version_error.Taker (unkept.Failed fault)) = Some (unheld.Failed fault)

@@ -10,6 +10,7 @@ use Rattle.cspf_book.specs.declared.link_figures.LinkFigures.{LinkFigures}
 use Rattle.cspf_book.specs.declared.path.Passed.{Passed}
 use Rattle.cspf_book.specs.declared.placement.Placement.{Placement}
 use Rattle.cspf_book_run.specs.BookLines.{place_words}
+use Rattle.cspf_book_run.specs.WriteFaultWords.{write_fault_words}
 use Rattle.cspf_book_run.specs.declared.held_refusal.HeldRefusal.{HeldRefusal}
 use Rattle.cspf_book_run.specs.declared.held_refusal.HeldRefusal.TheVariants as held
 use Rattle.cspf_book_run.specs.declared.refusals.PlaceRefusal.{PlaceRefusal}
@@ -27,7 +28,7 @@ held_words held.Full = codes "full"
 held_words held.Long = codes "long"
 held_words held.Twice = codes "twice"
 held_words held.Links = codes "links"
-held_words (held.Keep written) = codes "keep " ++ decimal written
+held_words (held.Failed fault) = write_fault_words fault
 
 -- the line that says why the placement with this id isn't restored
 abbrev pub refused_held_line : ℕ → HeldRefusal → List ℕ

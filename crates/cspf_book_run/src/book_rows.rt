@@ -7,7 +7,7 @@ ghost use Rattle.csv.specs.Records.{fields_of};
 use crate::book_row::BookRow;
 use crate::book_row_error::{BookRowError, refused_book_row};
 use crate::book_sink::BookSink;
-use crate::keeper::Keeps;
+use crate::keeper::{Keeps, KeepsNothing};
 use crate::line::{TextResult, refused_place, refused_release};
 use crate::placement_line::{
     left_line, refused_held, refused_left, refused_offer, refused_show, show_line,
@@ -27,9 +27,9 @@ pub struct BookRows<S> {
     /// The book with what keeps the texts of accepted rows, the open changes, and two counts.
     /// `answers` counts the answers to `ask`, `place` and `offer` rows together. `refused` counts the
     /// refusals of rows that couldn't be read, of batches, and of rows about placements.
-    rows: Rows<BookSink<S>>,
+    pub rows: Rows<BookSink<S>>,
     /// How many rows were read.
-    read: u64,
+    pub read: u64,
 }
 
 impl<C, S: Keeps<C>> Answering<C> for BookRows<S> {
@@ -104,28 +104,28 @@ impl<S> BookRows<S> {
     }
 
     /// The book, in its state after the last row.
-    pub(crate) fn book(&self) -> &Book
+    pub fn book(&self) -> &Book
         ensures { result.now ≡ self.now.rows.sink.book }
     {
         self.rows.sink.book()
     }
 
     /// Whether a row was refused.
-    pub(crate) fn has_refused(&self) -> bool
+    pub fn has_refused(&self) -> bool
         ensures { result ≡ nat_lt 0 self.now.rows.refused }
     {
         self.rows.refused > 0
     }
 
     /// Whether changes are open.
-    pub(crate) fn has_open(&self) -> bool
+    pub fn has_open(&self) -> bool
         ensures { result ≡ nat_lt 0 self.now.rows.changes.count }
     {
         self.rows.changes.count > 0
     }
 
     /// What keeps the texts of accepted rows, in its state after the last call.
-    pub(crate) fn into_keeping(self) -> S
+    pub fn into_keeping(self) -> S
         ensures { result ≡ self.rows.sink.keeping }
     {
         let BookRows { rows, read: _ } = self;
@@ -136,6 +136,34 @@ impl<S> BookRows<S> {
             refused: _,
         } = rows;
         sink.into_keeping()
+    }
+}
+
+impl BookRows<KeepsNothing> {
+    ghost use Rattle.cspf_book_run.specs.BookScript.{BookRunState, going_on};
+    ghost use Rattle.cspf_book_run.specs.BookStates.{KeepsBook};
+
+    /// The state before the first row of a run that goes on with the same book, and whose accepted rows
+    /// `keeping` keeps. The first `skipped` versions of the book aren't counted where lines name a
+    /// version. No change is open, and nothing was answered or refused.
+    pub fn going_on<T>(self, alloc: Global, keeping: T, skipped: u32) -> BookRows<T>
+        requires { skipped ≤ self.rows.sink.book.version }
+        ensures state { (s : BookRunState) → KeepsBook self.rows s
+            → KeepsBook result.rows (going_on s skipped) }
+        ensures none { result.read ≡ 0 }
+        ensures keeping { result.rows.sink.keeping ≡ keeping }
+    {
+        let BookRows { rows, read: _ } = self;
+        let Rows {
+            sink,
+            changes: _,
+            answers: _,
+            refused: _,
+        } = rows;
+        BookRows {
+            rows: Rows::new(alloc, sink.going_on(alloc, keeping, skipped)),
+            read: 0,
+        }
     }
 }
 

@@ -4,7 +4,7 @@
 ghost use Rattle.std.specs.Prelude.{◌≡◌, ◌-◌, ◌<◌, ◌≤◌, false, IfOk, IfErr, OnOk, OnErr};
 
 use crate::held_refusal::HeldRefusal;
-use crate::keeper::{Keeper, Keeps, Unkept};
+use crate::keeper::{Keeper, Keeps, KeepsNothing, Unkept};
 use crate::limits::MOST_PLACING_VERSIONS;
 use crate::line::{base_lines, released};
 use crate::placement_line::{held_lines, offer_line};
@@ -79,7 +79,7 @@ impl<C, S: Keeps<C>> Sink<C> for BookSink<S> {
                     AbsorbError::Memory => Err(AllocError),
                 },
                 VersionError::Taker(why) => match why {
-                    Unkept::Failed { written } => Ok(Err(BatchRefusal::Keep { written })),
+                    Unkept::Failed(fault) => Ok(Err(fault.batch_refusal())),
                     Unkept::Memory => Err(AllocError),
                 },
             },
@@ -131,6 +131,28 @@ impl<S> BookSink<S> {
             keeper,
         } = self;
         keeper.into_keeping()
+    }
+}
+
+impl BookSink<KeepsNothing> {
+    /// The same book in a run whose accepted rows `keeping` keeps. The first `skipped` versions of the
+    /// book aren't counted where lines name a version.
+    pub(crate) fn going_on<T>(self, alloc: Global, keeping: T, skipped: u32) -> BookSink<T>
+        requires { skipped ≤ self.book.version }
+        ensures { result ≡ record { book = self.book; batches = self.batches; skipped = skipped; keeping = keeping } }
+    {
+        let BookSink {
+            book,
+            batches,
+            skipped: _,
+            keeper: _,
+        } = self;
+        BookSink {
+            book,
+            batches,
+            skipped,
+            keeper: Keeper::new(alloc, keeping),
+        }
     }
 }
 
@@ -234,7 +256,7 @@ impl<S> BookSink<S> {
                     ReleaseError::Memory => Err(AllocError),
                 },
                 VersionError::Taker(why) => match why {
-                    Unkept::Failed { written } => Ok(Err(ReleaseRefusal::Keep { written })),
+                    Unkept::Failed(fault) => Ok(Err(ReleaseRefusal::Failed(fault))),
                     Unkept::Memory => Err(AllocError),
                 },
             },

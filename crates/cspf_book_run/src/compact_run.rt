@@ -2,11 +2,12 @@
 //! and of held placements that make the same book.
 
 ghost use Rattle.std.specs.Prelude.{◌≡◌, IfOk, IfErr, IfSome, ◌++◌};
+ghost use Rattle.std.specs.Option.{option_map};
 ghost use Rattle.cspf_rows.specs.Records.{rows_of, rows_left, IsPlain};
 ghost use Rattle.cspf_book_run.specs.BookScript.{book_start};
 ghost use Rattle.cspf_book_run.specs.BookStates.{KeepsBook, IsBookBefore};
-ghost use Rattle.cspf_book_run.specs.CompactStates.{IsBookCompact, IsOpenStop};
-ghost use Rattle.cspf_book_run.specs.Compacts.{IsCompaction, IsCompactStop};
+ghost use Rattle.cspf_book_run.specs.CompactStates.{IsBookCompact, IsOpenStop, IsReadingStop};
+ghost use Rattle.cspf_book_run.specs.Compacts.{IsBookRead, IsCompaction, IsCompactStop};
 ghost use Rattle.cspf_book_run.specs.Settled.{IsSettledPart, IsTornCompaction, IsTornStop};
 
 use crate::book_rows::BookRows;
@@ -69,12 +70,27 @@ pub fn run_compact<R: Read + Drop>(alloc: Global, reader: R) -> Result<Vec<u8>, 
     ensures stopped { IfErr result (λ why. IfSome (R.remaining reader) (λ bytes.
         IsCompactStop why (rows_of bytes))) }
 {
+    let rows = read_book(alloc, reader)?;
+    compact_book(alloc, &rows)
+}
+
+/// Reads a stream of rows as `run_book` does, and returns the state after the last row, in which no
+/// change is open. `IsBookRead` defines this state. Any number of rows is read, no lines are written,
+/// and no texts are kept. The errors are those of `run_compact`.
+pub fn read_book<R: Read + Drop>(
+    alloc: Global,
+    reader: R,
+) -> Result<BookRows<KeepsNothing>, CompactStop>
+    ensures read { IfOk result (IsBookRead (option_map rows_of (R.remaining reader))) }
+    ensures stopped { IfErr result (λ why. IfSome (R.remaining reader) (λ bytes.
+        IsCompactStop why (rows_of bytes))) }
+{
     let book = Book::new(alloc)?;
-    let mut compact = CompactRows {
+    let compact = CompactRows {
         rows: BookRows::new(alloc, book, KeepsNothing),
     };
     let mut rows = open_records(alloc, reader);
-    compact_all(alloc, &mut rows, &mut compact)
+    read_all(alloc, &mut rows, compact)
 }
 
 /// As `run_compact`, but leaves out what follows the last whole line that begins with `end,`,
@@ -115,38 +131,47 @@ fn compact_settled(alloc: Global, bytes: &[u8]) -> (Result<Vec<u8>, CompactStop>
     (run_compact(alloc, part), left)
 }
 
-/// Answers all rows that the reader hasn't read yet, and makes the compact stream.
-fn compact_all<R: Read>(
+/// Answers all rows that the reader hasn't read yet, and returns the state after them.
+fn read_all<R: Read>(
     alloc: Global,
     rows: &mut Reader<R>,
-    compact: &mut CompactRows,
-) -> Result<Vec<u8>, CompactStop>
+    compact: CompactRows,
+) -> Result<BookRows<KeepsNothing>, CompactStop>
     requires plain { IsPlain rows.old }
-    requires fresh { KeepsBook compact.old.rows.rows book_start }
-    requires first { IsBookBefore 1 compact.old.rows }
-    ensures made { IfOk result (λ text. IfSome (rows_left R.remaining rows.old) (λ all.
-        IsCompaction all text.items)) }
+    requires fresh { KeepsBook compact.rows.rows book_start }
+    requires first { IsBookBefore 1 compact.rows }
+    ensures read { IfOk result (IsBookRead (rows_left R.remaining rows.old)) }
     ensures stopped { IfErr result (λ why. IfSome (rows_left R.remaining rows.old) (λ all.
         IsCompactStop why all)) }
 {
-    match answer_rows(&(), alloc, rows, &mut io::sink(), compact) {
-        Ok(()) => compact_book(alloc, compact),
+    let mut compact = compact;
+    match answer_rows(&(), alloc, rows, &mut io::sink(), &mut compact) {
+        Ok(()) => ended(alloc, compact),
         Err(stop) => Err(CompactStop::from(stop)),
     }
 }
 
-/// The compact stream of the book after all rows, or the line that says how many changes are open.
-fn compact_book(alloc: Global, compact: &CompactRows) -> Result<Vec<u8>, CompactStop>
-    ensures made { IfOk result (λ text. IsBookCompact compact.now text.items) }
-    ensures stopped { IfErr result (IsOpenStop compact.now) }
+/// The state after all rows. If changes are open, the error has the line that says how many.
+fn ended(alloc: Global, compact: CompactRows) -> Result<BookRows<KeepsNothing>, CompactStop>
+    ensures closed { IfOk result (λ rows. (rows ≡ compact.rows) × (rows.rows.changes.count ≡ 0)) }
+    ensures stopped { IfErr result (IsOpenStop compact) }
+{
+    let CompactRows { rows } = compact;
+    if rows.has_open() {
+        let line = rows.last_line(alloc, false)?;
+        return Err(CompactStop::Unended { line });
+    }
+    Ok(rows)
+}
+
+/// The compact stream of the book.
+fn compact_book(alloc: Global, rows: &BookRows<KeepsNothing>) -> Result<Vec<u8>, CompactStop>
+    ensures made { IfOk result (λ text. IsBookCompact rows.now text.items) }
+    ensures stopped { IfErr result IsReadingStop }
 {
     // Law: the compact stream of a book makes its base and its placements.
     compacts_make_books();
-    if compact.rows.has_open() {
-        let line = compact.rows.last_line(alloc, false)?;
-        return Err(CompactStop::Unended { line });
-    }
-    let book = compact.rows.book();
+    let book = rows.book();
     placements_in_range(book.placements());
     Ok(compact_text(alloc, book)?)
 }

@@ -3,6 +3,7 @@ ghost use Rattle.std.specs.Prelude.{◌≡◌};
 ghost use Rattle.cspf_book_run.specs.PlaceErrors.{refusal_of_restoring};
 
 use crate::keeper::Unkept;
+use crate::write_fault::WriteFault;
 use cspf_book::{RestoreError, VersionError};
 use std::error::Error;
 use std::fmt;
@@ -24,11 +25,8 @@ pub enum HeldRefusal {
     Twice,
     /// The routes of all placements would have more than `MOST_ROUTES_LINKS` links.
     Links,
-    /// A write of this row's text failed.
-    Keep {
-        /// How many bytes of the text were written.
-        written: usize,
-    },
+    /// A write failed while the row was accepted.
+    Failed(WriteFault),
 }
 
 impl fmt::Display for HeldRefusal {
@@ -46,7 +44,7 @@ impl fmt::Display for HeldRefusal {
             HeldRefusal::Long => f.write_str("long"),
             HeldRefusal::Twice => f.write_str("twice"),
             HeldRefusal::Links => f.write_str("links"),
-            HeldRefusal::Keep { written } => write!(f, "keep {written}"),
+            HeldRefusal::Failed(fault) => write!(f, "{fault}"),
         }
     }
 }
@@ -69,7 +67,7 @@ impl HeldRefusal {
                 RestoreError::Memory => None,
             },
             VersionError::Taker(why) => match why {
-                Unkept::Failed { written } => Some(HeldRefusal::Keep { written }),
+                Unkept::Failed(fault) => Some(HeldRefusal::Failed(fault)),
                 Unkept::Memory => None,
             },
         }

@@ -7,6 +7,7 @@ ghost use Rattle.cspf_book_run.specs.Keeping.{KeepSpec, IsUnkept};
 ghost use Rattle.cspf_book_run.specs.declared.keeper.Unkept.TheVariants as unkept;
 
 use crate::line::{TextResult, place_line};
+use crate::write_fault::WriteFault;
 use cspf_book::Taker;
 use cspf_model::{Batch, Outcome};
 use cspf_rows::put_all;
@@ -47,11 +48,8 @@ pub struct KeepsNothing;
 pub enum Unkept {
     /// Memory was refused before the write.
     Memory,
-    /// A write failed or wrote no byte.
-    Failed {
-        /// How many bytes of the text were written.
-        written: usize,
-    },
+    /// A write failed.
+    Failed(WriteFault),
 }
 
 impl From<AllocError> for Unkept {
@@ -82,7 +80,7 @@ impl<C, K: Write> Keeps<C> for Keeping<K> {
             Ok(()) => Ok(()),
             Err(written) => {
                 self.stopped = true;
-                Err(Unkept::Failed { written })
+                Err(Unkept::Failed(WriteFault::Keep { written }))
             }
         }
     }

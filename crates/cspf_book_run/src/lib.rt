@@ -32,21 +32,27 @@ mod route_field;
 mod row_text;
 mod run;
 mod settled;
+mod write_fault;
 
 pub use book_row::BookRow;
 pub use book_row_error::BookRowError;
-pub use compact_run::{run_compact, run_torn_compact};
+pub use book_rows::BookRows;
+pub use book_sink::BookSink;
+pub use compact_run::{read_book, run_compact, run_torn_compact};
 pub use compact_stop::CompactStop;
 pub use cspf_solve::{SolveError, Summary};
 pub use cspf_stream::StreamError;
 pub use held_refusal::HeldRefusal;
 pub use held_row::{held_row_text, held_rows_are_read_back};
+pub use keeper::{Keeps, KeepsNothing, Unkept};
 pub use laws::{
     compacts_make_books, covered_books, kept_is_the_book, one_reply_of_books, runs_stop_once,
     sums_stay_small, worked_covers,
 };
 pub use limits::MOST_PLACING_VERSIONS;
+pub use line::write_over;
 pub use refusals::{PlaceRefusal, ReleaseRefusal};
 pub use route_field::{read_steps, route_text, route_texts_are_read_back};
 pub use run::run_book;
 pub use settled::settled_part;
+pub use write_fault::WriteFault;

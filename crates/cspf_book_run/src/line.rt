@@ -37,11 +37,7 @@ pub(crate) fn base_lines(
 
 /// Writes an `over` line for each link and priority at which the link has less bandwidth than the
 /// placements count on it.
-pub(crate) fn write_over(
-    alloc: Global,
-    lines: &mut Vec<u8>,
-    over: &[Over],
-) -> Result<(), AllocError>
+pub fn write_over(alloc: Global, lines: &mut Vec<u8>, over: &[Over]) -> Result<(), AllocError>
     ensures { OnOk result (lines.new.items ≡ lines.old.items ++ flat_map over_line over.now) }
 {
     for it in over {

@@ -3,6 +3,7 @@ ghost use Rattle.std.specs.Prelude.{◌≡◌};
 ghost use Rattle.cspf_book_run.specs.PlaceErrors.{place_refusal_of, refusal_of_placing};
 
 use crate::keeper::Unkept;
+use crate::write_fault::WriteFault;
 use cspf_book::{PlaceError, VersionError};
 use std::error::Error;
 use std::fmt;
@@ -22,11 +23,8 @@ pub enum PlaceRefusal {
     Twice,
     /// The best route has more than `MOST_PLACED_LINKS` links.
     Long,
-    /// A write of this row's text failed.
-    Keep {
-        /// How many bytes of the text were written.
-        written: usize,
-    },
+    /// A write failed while the row was accepted.
+    Failed(WriteFault),
 }
 
 impl fmt::Display for PlaceRefusal {
@@ -43,7 +41,7 @@ impl fmt::Display for PlaceRefusal {
             PlaceRefusal::Links => f.write_str("links"),
             PlaceRefusal::Twice => f.write_str("twice"),
             PlaceRefusal::Long => f.write_str("long"),
-            PlaceRefusal::Keep { written } => write!(f, "keep {written}"),
+            PlaceRefusal::Failed(fault) => write!(f, "{fault}"),
         }
     }
 }
@@ -74,7 +72,7 @@ impl PlaceRefusal {
         match why {
             VersionError::Book(why) => PlaceRefusal::of(why),
             VersionError::Taker(why) => match why {
-                Unkept::Failed { written } => Some(PlaceRefusal::Keep { written }),
+                Unkept::Failed(fault) => Some(PlaceRefusal::Failed(fault)),
                 Unkept::Memory => None,
             },
         }
@@ -90,11 +88,8 @@ pub enum ReleaseRefusal {
     Exhausted,
     /// No placement has this id.
     Absent,
-    /// A write of this row's text failed.
-    Keep {
-        /// How many bytes of the text were written.
-        written: usize,
-    },
+    /// A write failed while the row was accepted.
+    Failed(WriteFault),
 }
 
 impl fmt::Display for ReleaseRefusal {
@@ -108,7 +103,7 @@ impl fmt::Display for ReleaseRefusal {
             ReleaseRefusal::Stopped => f.write_str("stopped"),
             ReleaseRefusal::Exhausted => f.write_str("exhausted"),
             ReleaseRefusal::Absent => f.write_str("absent"),
-            ReleaseRefusal::Keep { written } => write!(f, "keep {written}"),
+            ReleaseRefusal::Failed(fault) => write!(f, "{fault}"),
         }
     }
 }

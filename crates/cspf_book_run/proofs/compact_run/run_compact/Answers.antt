@@ -1,10 +1,9 @@
-use Rattle.cspf_rows.specs.Records.{rows_of}
-use Rattle.cspf_solve.proofs.SolveRun.{ok_of_rows, err_of_rows}
-use Rattle.cspf_book_run.specs.Compacts.{IsCompaction, IsCompactStop}
+use Rattle.std.proofs.lemmas.Result.{IfOk-weaker, IfErr-weaker}
+use Rattle.cspf_book_run.proofs.CompactRuns.{compaction_made, reading_stops}
 use Rattle.cspf_book_run.proofs.compact_run.run_compact.Goals as goal
 
 pub returns-clause-made : goal.returns-clause-made
-returns-clause-made g c = ok_of_rows _ _ _ rows_of (λ text all. IsCompaction all text.items) c.open_records-rows.ensures.rows c.compact_all.ensures.made
+returns-clause-made g c = IfOk-weaker c.compact_book.result _ _ (λ text made. compaction_made _ _ text.items c.in_ok-rows.ensures.read made) c.compact_book.ensures.made
 
 pub returns-clause-stopped : goal.returns-clause-stopped
-returns-clause-stopped g c = err_of_rows _ _ _ rows_of (λ why all. IsCompactStop why all) c.open_records-rows.ensures.rows c.compact_all.ensures.stopped
+returns-clause-stopped g c = IfErr-weaker c.compact_book.result _ _ (λ why stops. reading_stops _ why stops) c.compact_book.ensures.stopped

@@ -9,7 +9,7 @@ use Rattle.cspf_book.specs.BookState.{BookState}
 use Rattle.cspf_book.specs.Leading.{LeadsTo}
 use Rattle.cspf_book.specs.Takings.{after_absorbing}
 use Rattle.cspf_book_run.specs.declared.keeper.Keeper.{Keeper}
-use Rattle.cspf_book_run.proofs.BookSteps.{base_lines_are}
+use Rattle.cspf_book_run.proofs.BookSteps.{base_lines_are, batch_cut}
 use Rattle.cspf_book_run.proofs.book_sink.BookSinkSink.accept.Goals as goal
 
 pub returns-in-Ok-clause-accepted : goal.returns-in-Ok-clause-accepted
@@ -54,20 +54,17 @@ returns-in-Failed-clause-refused g c = λ all front.
     let why = rw (c.in-Taker.is, c.in-Failed.is) at c.in-Err.ensures.err in
     let same = kept_all batch.changes all front why.0.short in
     let text : c.in_ok-self-inside.field-0.items ≡ batch_text (record batch { changes = all }) = c.in_ok-self-inside.ensures ∙ ap (λ (cs : List Change). batch_text (record batch { changes = cs })) same in
-    subst (λ (p : BookSinkState g.row.S.Denot). (book_spec g.S.Keeps.spec).refuses p (record batch { changes = all }) (refusal.Keep c.in-Failed.written) new) c.self.view_is (
+    subst (λ (p : BookSinkState g.row.S.Denot). (book_spec g.S.Keeps.spec).refuses p (record batch { changes = all }) c.batch_refusal.result new) c.self.view_is (
+    rw (c.batch_refusal.ensures) (batch_cut g.S.Keeps.spec old (record batch { changes = all }) c.in-Failed.fault new (
+      fits_whole c.self.inside.book.base batch.number batch.changes all front why.0,
+      c.in_ok-lines.lines.items,
+      base_lines_are old batch.number _ _ batch.changes all c.deref.result.now c.deref-2.result.now c.in_ok-lines.lines.items same
+          (ap (λ (b : NumberedChanges). b.number) c.batch.view_is) (ap (λ n. n + 1 - c.self.inside.skipped) c.version.ensures)
+          (c.deref.ensures.value ∙ c.in_ok-over.ensures) (rw (c.deref-2.ensures.value) c.in_ok-lost.ensures) c.in_ok-lines.ensures,
       (
-        fits_whole c.self.inside.book.base batch.number batch.changes all front why.0,
-        c.in_ok-lines.lines.items,
-        base_lines_are old batch.number _ _ batch.changes all c.deref.result.now c.deref-2.result.now c.in_ok-lines.lines.items same
-            (ap (λ (b : NumberedChanges). b.number) c.batch.view_is) (ap (λ n. n + 1 - c.self.inside.skipped) c.version.ensures)
-            (c.deref.ensures.value ∙ c.in_ok-over.ensures) (rw (c.deref-2.ensures.value) c.in_ok-lost.ensures) c.in_ok-lines.ensures,
-        (
-          why.1,
-          subst (λ (changes : List Change). LeadsTo c.self.inside.book why.1 (after_absorbing c.self.inside.book changes)) same why.2.leads,
-          subst (λ (x : List ℕ). g.S.Keeps.spec.fails c.self.inside.keeper.keeping x why.1 c.in-Failed.written c.try_absorb.new.taker.keeping) text why.3,
-        ),
+        why.1,
+        subst (λ (changes : List Change). LeadsTo c.self.inside.book why.1 (after_absorbing c.self.inside.book changes)) same why.2.leads,
+        subst (λ (x : List ℕ). g.S.Keeps.spec.fails c.self.inside.keeper.keeping x why.1 c.in-Failed.fault c.try_absorb.new.taker.keeping) text why.3,
       ),
-      c.in-Err.ensures.same,
-      refl,
-      refl,
+    ) c.in-Err.ensures.same refl refl)
     )
