@@ -22,7 +22,7 @@ last_put (Err error.Write) Last line old new is whole stopped = (line, is, stopp
 last_put (Err error.Flush) Last line old new is whole stopped = (line, is, stopped)
 last_put (Err other) Last line old new is whole stopped = absurd stopped
 
-module _ {S J F : Type 0} (spec : PublishingSpec S J) (answers : AnswersOf S) (fails : F → FailsOf S) (one : HasOneSource spec answers fails) where
+module _ {S J L F : Type 0} (spec : PublishingSpec S J L) (answers : AnswersOf S) (fails : F → FailsOf S) (one : HasOneSource spec answers fails) where
   -- `t` is a state after the state `s`: the invariant holds, and the source is the same
   abbrev IsLater : S → S → Type 0
   IsLater s t = spec.invariant t × ((spec.publisher t).source ≡ (spec.publisher s).source)

@@ -1,5 +1,5 @@
 -- The clients of a run: before their threads run, after their rows are answered, and their results.
-use Rattle.std.proofs.Common.{◌≡◌, ◌+◌, ◌-◌, ◌^◌, ◌<◌, ◌⊎◌, ℕ, suc, min, false, Option, List, [], ◌∷◌, ◌++◌, All, length, Result, Ok, Err, inl, inr, refl, sym, ap, subst, ◌∙◌, arith, rules}
+use Rattle.std.proofs.Common.{◌≡◌, ◌↔◌, ◌+◌, ◌-◌, ◌^◌, ◌<◌, ◌⊎◌, ℕ, suc, min, false, Option, List, [], ◌∷◌, ◌++◌, All, length, Result, Ok, Err, inl, inr, refl, sym, ap, subst, ◌∙◌, arith, rules}
 use Rattle.std.specs.List.{AllZip}
 use Rattle.std.proofs.lemmas.List.Elements.{All-cons, All-head, All-nil, All-tail}
 use Rattle.logbook.specs.Pages.{Book}
@@ -146,15 +146,16 @@ module _ {Q V : Type 0} (kinds : QuestionKinds) (reopens : ReopensOf Q V) (bytes
 
   -- if the rows of the stream were answered, and the stream and the clients have ended, the result of
   -- the run is as `IsPublishingRun` says
-  pub publishing_run : {S F W J : Type 0} (spec : PublishingSpec S J) (answers : AnswersOf S) (fails : F → FailsOf S) (said : W → Option (List ℕ)) (rows : Option (List ℕ)) (writer written : W) (before after : S)
-      (clients : List (Client Q V)) (ran : List (ServingState Q V)) (ended : Result (Unit {0}) StreamError) (served : Served W J V)
+  pub publishing_run : {S F W J R : Type 0} (spec : PublishingSpec S J R) (answers : AnswersOf S) (fails : F → FailsOf S) (said : W → Option (List ℕ)) (rows : Option (List ℕ)) (writer written : W) (before after : S)
+      (clients : List (Client Q V)) (ran : List (ServingState Q V)) (ended : Result (Unit {0}) StreamError) (served : Served W J V) (rest : R)
       → IsStreamRun answers fails spec.last ended (option_map rows_of rows) before after (said writer) (said written)
-      → AreNumberedPairs (IsAnswered kinds reopens bytes contents source) 1 clients ran → IsClosedRun spec ended written after ran served
-      → IsPublishingRun spec answers fails kinds rows said bytes contents reopens writer before clients served
-  publishing_run spec answers fails said rows writer written before after clients ran ended served run answered closed = record {
+      → AreNumberedPairs (IsAnswered kinds reopens bytes contents source) 1 clients ran → IsClosedRun spec ended written after ran served rest
+      → IsPublishingRun spec answers fails kinds rows said bytes contents reopens writer before clients served rest
+  publishing_run spec answers fails said rows writer written before after clients ran ended served rest run answered closed = record {
     after = after;
     rows_run = rw (closed.ended_is, closed.said_is) run;
     journal_is = closed.journal_is;
+    rest_is = closed.rest_is;
     steps_of_run = closed.steps;
     clients_served = served_of (spec.publisher after).batches served.steps clients ran served.clients.items answered closed.closed closed.seen;
     status_is = closed.status;
@@ -205,10 +206,10 @@ module _ {J : Type 0} (contents : J → Option (List ℕ)) (first : PublisherSta
 
   -- If the publisher of a run started without batches, its result is as `IsServedRun` says.
   pub served_run : {F W Q V : Type 0} (kinds : QuestionKinds) (updates : Option (List ℕ)) (said : W → Option (List ℕ)) (bytes : Q → Option (List ℕ)) (replies : V → Option (List ℕ)) (reopens : ReopensOf Q V)
-      (writer : W) (before : KeptUpdates J) (clients : List (Client Q V)) (served : Served W J V) → KeepsUpdates contents first before no_updates
-      → IsPublishingRun {F = F} (updates_spec contents) (IsUpdateTaken contents) (λ fault. IsUpdateFailed contents) kinds updates said bytes replies reopens writer before clients served
+      (writer : W) (before : KeptUpdates J) (clients : List (Client Q V)) (served : Served W J V) (rest : Unit {0}) → KeepsUpdates contents first before no_updates
+      → IsPublishingRun {F = F} (updates_spec contents) (IsUpdateTaken contents) (λ fault. IsUpdateFailed contents) kinds updates said bytes replies reopens writer before clients served rest
       → IsServedRun kinds updates said contents bytes replies reopens writer first.journal clients served
-  served_run kinds updates said bytes replies reopens writer before clients served kept run =
+  served_run kinds updates said bytes replies reopens writer before clients served rest kept run =
       let t = updates_run_of served.updates (option_map rows_of updates) before run.after (said writer) (said served.said) kept run.rows_run in
       let batches = t.1.published.batches in
       let steps = run.steps_of_run in
@@ -245,3 +246,9 @@ seats_more n (s ∷ seats) seat all is = (all.0, seats_more (suc n) seats seat a
 pub begins : {J : Type 0} (contents : J → Option (List ℕ)) (p : PublisherState J) (k : KeptUpdates J) → k.sink.publisher ≡ p → p.batches ≡ [] → p.stopped ≡ false
     → AreOpen k.changes [] → IsFresh k → KeepsUpdates contents p k no_updates
 begins contents p k same none going h4 fresh = search rules
+
+-- The status depends only on whether there were refusals.
+pub status_iff : {V : Type 0} (P Q : Type 0) (clients : List (ServedClient V)) (status : ℕ) → P ↔ Q → IsStatusOf P clients status → IsStatusOf Q clients status
+status_iff P Q clients status iff (inl (none, each, is)) = inl ((λ q. none (iff.1 q)), each, is)
+status_iff P Q clients status iff (inr (inl p, is)) = inr (inl (iff.0 p), is)
+status_iff P Q clients status iff (inr (inr some, is)) = inr (inr some, is)

@@ -27,9 +27,10 @@ use Rattle.cspf_stream.specs.declared.rows.Rows.{Rows}
 use Rattle.cspf_stream.proofs.BatchRefusals.{IsNotAccepted, wrong_end, unfit_end}
 use Rattle.cspf_stream.proofs.KeptChanges.{kept_all, refusal_whole}
 use Rattle.cspf_solve.specs.Script.{RunState, open_batch, after_change_row, after_refused_row, after_refused_batch, after_reply, IsAccepted}
+use Rattle.cspf_serve.specs.Counted.{CountedState, IsPublished}
 use Rattle.cspf_serve.specs.LiveWords.{refusal_of}
 use Rattle.cspf_serve.specs.Updates.{UpdatesState, IsEndUpdate, IsUpdateAnswered, IsUpdateLost, at_next_update}
-use Rattle.cspf_serve.specs.UpdatesStates.{CountedState, KeptUpdates, IsPublished, ArePublished, KeepsUpdates, IsUpdateTaken, IsUpdateFailed, publisher_spec, after_published}
+use Rattle.cspf_serve.specs.UpdatesStates.{KeptUpdates, ArePublished, KeepsUpdates, IsUpdateTaken, IsUpdateFailed, publisher_spec, after_published}
 
 -- ---- the changes of a batch are a prefix of the open changes
 

@@ -13,6 +13,7 @@ pub mod LiveLines
 pub mod RunFaults
 pub mod Updates
 pub mod Publishing
+pub mod Counted
 pub mod UpdatesStates
 pub mod UpdatesSource
 pub mod NumberedPairs

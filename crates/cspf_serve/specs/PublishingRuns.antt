@@ -49,12 +49,13 @@ IsStatusOf Refused clients status =
 -- them. Its publisher has all published batches. The answers to each client are computed from
 -- prefixes of these batches. The run returns one list of the journal's steps. These steps record
 -- the batches, count them as published, and have the clients' readings of the count of published
--- batches. The clients are numbered from 1. `reopens` says which streams of a next session the
--- writer of a client's replies may return.
-pub record IsPublishingRun {S F W J Q V : Type 0} (spec : PublishingSpec S J) (answers : AnswersOf S) (fails : F → FailsOf S) (kinds : QuestionKinds) (rows : Option (List ℕ)) (said : W → Option (List ℕ)) (bytes : Q → Option (List ℕ)) (contents : V → Option (List ℕ)) (reopens : ReopensOf Q V) (writer : W) (before : S) (clients : List (Client Q V)) (served : Served W J V) : Type 0 where
+-- batches. The run also returns what the state has beside its publisher. The clients are numbered from
+-- 1. `reopens` says which streams of a next session the writer of a client's replies may return.
+pub record IsPublishingRun {S F W J R Q V : Type 0} (spec : PublishingSpec S J R) (answers : AnswersOf S) (fails : F → FailsOf S) (kinds : QuestionKinds) (rows : Option (List ℕ)) (said : W → Option (List ℕ)) (bytes : Q → Option (List ℕ)) (contents : V → Option (List ℕ)) (reopens : ReopensOf Q V) (writer : W) (before : S) (clients : List (Client Q V)) (served : Served W J V) (rest : R) : Type 0 where
   pub after : S
   pub rows_run : IsStreamRun answers fails spec.last served.updates (option_map rows_of rows) before after (said writer) (said served.said)
   pub journal_is : served.journal ≡ (spec.publisher after).journal
+  pub rest_is : rest ≡ spec.rest after
   pub steps_of_run : AreStepsOfRun (spec.publisher after).batches (spec.steps after).steps served.steps
   pub clients_served : AreServedFrom kinds bytes contents reopens (spec.publisher after).batches served.steps 1 clients served.clients.items
   pub status_is : IsStatusOf (spec.refused after) served.clients.items served.status

@@ -48,10 +48,11 @@ IsOfSource source c = (c.state.known.source ≡ source) × (c.state.steps.source
 
 -- The result of a run after its stream and all clients have ended. The result has one list of all
 -- steps of the publisher's journal that the publisher or a client has seen.
-pub record IsClosedRun {S W J Q V : Type 0} (spec : PublishingSpec S J) (ended : Result (Unit {0}) StreamError) (said : W) (updates : S) (serving : List (ServingState Q V)) (served : Served W J V) : Type 0 where
+pub record IsClosedRun {S W J R Q V : Type 0} (spec : PublishingSpec S J R) (ended : Result (Unit {0}) StreamError) (said : W) (updates : S) (serving : List (ServingState Q V)) (served : Served W J V) (rest : R) : Type 0 where
   pub ended_is : served.updates ≡ ended
   pub said_is : served.said ≡ said
   pub journal_is : served.journal ≡ (spec.publisher updates).journal
+  pub rest_is : rest ≡ spec.rest updates
   pub closed : AllZip (IsServedEnd (spec.publisher updates).batches) serving served.clients.items
   pub steps : AreStepsOfRun (spec.publisher updates).batches (spec.steps updates).steps served.steps
   pub seen : All (λ c. AreFirstSteps served.steps c.state.steps) serving

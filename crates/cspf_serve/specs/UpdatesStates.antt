@@ -1,15 +1,13 @@
 -- Private: the state that the code keeps for a stream of updates.
-use Rattle.std.specs.Prelude.{◌≡◌, ℕ, ◌+◌, ◌<◌, ◌⊎◌, false, Option, List, [], ◌∷◌, ◌++◌, length}
+use Rattle.std.specs.Prelude.{◌≡◌, ℕ, ◌+◌, ◌<◌, ◌⊎◌, false, Option, List, ◌++◌, length}
 use mathlib.Core.List.{IsPrefix}
 use Rattle.cspf_journal.specs.declared.log_step.LogStep.{LogStep}
 use Rattle.std.specs.Io.KnownBytes.{Appends}
 use Rattle.cspf_ero.specs.ReplyLine.{IsReply}
 use Rattle.cspf_model.specs.Best.{Answer, IsBestAnswer}
 use Rattle.cspf_model.specs.Changes.{database_after}
-use Rattle.cspf_model.specs.Numbered.{NumberedChanges}
 use Rattle.cspf_model.specs.declared.batch.Change.{Change}
-use Rattle.cspf_publish.specs.ApplyErrors.{IsApplyError, IsNextBatch}
-use Rattle.cspf_publish.specs.JournalSteps.{KnownSteps}
+use Rattle.cspf_publish.specs.ApplyErrors.{IsApplyError}
 use Rattle.cspf_publish.specs.PublisherStates.{PublisherState}
 use Rattle.cspf_publish.specs.declared.errors.ApplyError.{ApplyError}
 use Rattle.cspf_rows.specs.BatchText.{batch_text}
@@ -21,15 +19,10 @@ use Rattle.cspf_stream.specs.Lines.{version_line, end_line}
 use Rattle.cspf_stream.specs.Sinks.{SinkSpec}
 use Rattle.cspf_stream.specs.StreamStops.{FailsOf}
 use Rattle.cspf_solve.specs.Script.{open_batch, after_batch}
+use Rattle.cspf_serve.specs.Counted.{CountedState, IsPublished}
 use Rattle.cspf_serve.specs.LiveWords.{refusal_of}
 use Rattle.cspf_serve.specs.Publishing.{PublishingSpec}
 use Rattle.cspf_serve.specs.Updates.{UpdatesState, AreNowCounted, IsUpdateAnswered, IsUpdateLost, at_next_update}
-
--- a publisher, and the steps of its journal, up to the step that counts the last of its batches as
--- published
-pub record CountedState (J : Type 0) : Type 0 where
-  pub publisher : PublisherState J
-  pub steps : KnownSteps
 
 -- The state that the code keeps for the updates of a run: the publisher with its journal's steps,
 -- the open changes, and the numbers of answered requests and of refusals. An open change is one
@@ -63,13 +56,6 @@ pub record KeepsUpdates {J : Type 0} (contents : J → Option (List ℕ)) (first
   pub published : ArePublished contents first k.sink s
   pub changes : AreOpen k.changes s.run.changes
   pub refused : k.refused ≡ s.run.refused
-
--- The batch is the next one, it is published, and its text is appended to the journal.
-pub record IsPublished {J : Type 0} (contents : J → Option (List ℕ)) (old new : PublisherState J) (b : NumberedChanges) : Type 0 where
-  pub next : IsNextBatch old b
-  pub batches : new.batches ≡ old.batches ++ b ∷ []
-  pub going : new.stopped ≡ false
-  pub recorded : Appends (contents old.journal) (contents new.journal) (batch_text b)
 
 -- How a publisher publishes batches and answers requests. Each batch that it accepts is published,
 -- and a later step of its journal counts the batch as published. Each error of the publisher is a
@@ -113,11 +99,12 @@ IsUpdateFailed {J} contents place k fields k' =
 
 -- How the updates of a run publish. The last line counts the open changes (those without their `end`
 -- row). Refused are a row, a batch, and changes that are open at the end.
-abbrev pub updates_spec : {J : Type 0} → (J → Option (List ℕ)) → PublishingSpec (KeptUpdates J) J
+abbrev pub updates_spec : {J : Type 0} → (J → Option (List ℕ)) → PublishingSpec (KeptUpdates J) J (Unit {0})
 updates_spec {J} contents = record {
   publisher = λ k. k.sink.publisher;
   steps = λ k. k.sink.steps;
   last = λ k line. (all : List Change) → AreOpen k.changes all → line ≡ end_line all;
   refused = λ k. (0 < k.refused) ⊎ (0 < k.changes.count);
+  rest = λ k. tt;
   invariant = λ k. (first : PublisherState J) × (s : UpdatesState) × KeepsUpdates contents first k s;
 }

@@ -10,8 +10,9 @@
 //! `specs/Updates.antt` defines the answers to updates, and `specs/ServedRun.antt` defines the
 //! result of a whole run. A crate above may publish by a state of its own (`Publishing`):
 //! `serve_seats` is the run of `serve` with such a state, and `specs/PublishingRuns.antt` defines
-//! its result. `streams` has the code that these three modules share, and
-//! `specs/RunFaults.antt` defines the errors that end a run.
+//! its result. `Counted` is a publisher for such a state, with the steps of its journal. `streams`
+//! has the code that these three modules share, and `specs/RunFaults.antt` defines the errors that
+//! end a run.
 //!
 //! The run over one stream of rows is in `cspf_solve`, the workers are in `cspf_work`, and audit
 //! and snapshot are in `cspf_judge`. This crate re-exports the names of these crates.
@@ -43,7 +44,7 @@ pub use cspf_work::{
 pub use judging::{run_audit, run_audit_with_questions, run_snapshot};
 pub use live::{run_live_rows, run_live_rows_with};
 pub use serving::{
-    Publishing, Seats, Served, ServedError, ServedOptions, no_reply_is_behind, open_seats,
+    Counted, Publishing, Seats, Served, ServedError, ServedOptions, no_reply_is_behind, open_seats,
     run_serve, run_serve_with_questions, seats_with_one_session, serve_seats,
     served_replies_are_fresh,
 };

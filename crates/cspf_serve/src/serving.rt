@@ -1,10 +1,12 @@
 //! The run that publishes updates as they come in, while each client asks on its own stream.
 
+mod counted;
 mod laws;
 mod publishing;
 mod served_run;
 mod updates;
 
+pub use counted::Counted;
 pub use laws::{no_reply_is_behind, seats_with_one_session, served_replies_are_fresh};
 pub use publishing::Publishing;
 pub use served_run::{

@@ -17,6 +17,7 @@ ghost use Rattle.cspf_serve.specs.ServedRun.{IsServedFault, IsServedRun};
 ghost use Rattle.cspf_serve.specs.ServedSteps.{IsAnswered, IsClosedRun, IsOfSource, IsServedEnd};
 
 use crate::RunError;
+use crate::serving::counted::Counted;
 use crate::serving::publishing::Publishing;
 use crate::serving::updates::Updates;
 use crate::streams::opening::open_for;
@@ -176,17 +177,17 @@ fn seat_all<'a, Q: Drop, V: Drop, T, L: Ledger, K>(
 }
 
 /// Returns the list of all steps of the journal that the publisher and the clients have seen.
-fn all_steps<T, A: Publishing<T>, Q: Read + Drop, V: Replies + Drop>(
-    updates: &A,
+fn all_steps<J: Write, Q: Read + Drop, V: Replies + Drop>(
+    counted: &Counted<J>,
     serving: &[ServingClient<Q, V>],
 ) -> SeenSteps
-    requires { All (IsOfSource (A.spec.publisher updates.now).source) serving.now }
+    requires { All (IsOfSource counted.now.publisher.source) serving.now }
     ensures journal { AreJournalSteps result.steps }
-    ensures updates { IsPrefix (A.spec.steps updates.now).steps result.steps }
-    ensures counted { AreAllCounted (A.spec.publisher updates.now) result }
+    ensures updates { IsPrefix counted.now.steps.steps result.steps }
+    ensures counted { AreAllCounted counted.now.publisher result }
     ensures clients { All (λ c. AreFirstSteps result c.state.steps) serving.now }
 {
-    let mut all = updates.steps();
+    let mut all = counted.steps();
     for client in serving {
         all.learn(client.steps());
     }
@@ -194,23 +195,23 @@ fn all_steps<T, A: Publishing<T>, Q: Read + Drop, V: Replies + Drop>(
 }
 
 /// Lets each client learn of all published batches, and returns the clients' results.
-fn close_all<T, A: Publishing<T>, Q: Read + Drop, V: Replies + Drop>(
-    updates: &mut A,
+fn close_all<J: Write, Q: Read + Drop, V: Replies + Drop>(
+    counted: &mut Counted<J>,
     serving: Vec<ServingClient<Q, V>>,
     room: Vec<ServedClient<V>>,
 ) -> Vec<ServedClient<V>>
-    requires source { All (IsOfSource (A.spec.publisher updates.old).source) serving.items }
+    requires source { All (IsOfSource counted.old.publisher.source) serving.items }
     requires none { room.items ≡ [] }
     requires room { vec_len serving ≤ vec_capacity room }
-    ensures closed { AllZip (IsServedEnd (A.spec.publisher updates.old).batches) serving.items
+    ensures closed { AllZip (IsServedEnd counted.old.publisher.batches) serving.items
         result.items }
-    ensures same { updates.new ≡ updates.old }
+    ensures same { counted.new ≡ counted.old }
 {
     let mut served = room;
     for client in serving {
         let mut client = client;
         let known = client.known().copy();
-        client.meet(updates.tell());
+        client.meet(counted.tell());
         served.push_reserved(client.close(known));
     }
     served
@@ -223,11 +224,12 @@ fn are_accepted<V>(clients: &[ServedClient<V>]) -> bool
     clients.iter().all(|client| client.refused == 0)
 }
 
-/// Returns 0 if neither the updates nor a client had refusals. Otherwise returns 2.
-fn status_of<T, A: Publishing<T>, V>(updates: &A, clients: &[ServedClient<V>]) -> u8
-    ensures { IsStatusOf (A.spec.refused updates.now) clients.now result }
+/// Returns 0 if neither the updates nor a client had refusals. Otherwise returns 2. `refused` says
+/// whether the updates had refusals.
+fn status_of<V>(refused: bool, clients: &[ServedClient<V>]) -> u8
+    ensures { IsStatusOf (IsTrue refused) clients.now result }
 {
-    if updates.has_refused() {
+    if refused {
         return 2;
     }
     if are_accepted(clients) { 0 } else { 2 }
@@ -329,46 +331,56 @@ pub fn open_seats<'a, J: Write, Q: Drop, V: Drop, T: Wait, L: Ledger, K>(
     }
 }
 
-/// Makes the result of a run after the updates and all clients have ended.
-fn close_run<W, J, Q: Read + Drop, V: Replies + Drop, T: Wait, A: Publishing<T, Journal = J>>(
+/// Makes the result of a run after the updates and all clients have ended. Also returns what
+/// `updates` has beside its publisher.
+fn close_run<
+    W,
+    J: Write,
+    Q: Read + Drop,
+    V: Replies + Drop,
+    T: Wait,
+    A: Publishing<T, Journal = J>,
+>(
     rt: &T,
     ended: Result<(), StreamError>,
     said: W,
     updates: A,
     serving: Vec<ServingClient<Q, V>>,
     room: Vec<ServedClient<V>>,
-) -> Served<W, J, V>
+) -> (Served<W, J, V>, A::Rest)
     requires source { All (IsOfSource (A.spec.publisher updates).source) serving.items }
     requires none { room.items ≡ [] }
     requires room { vec_len serving ≤ vec_capacity room }
-    ensures { IsClosedRun A.spec ended said updates serving.items result }
+    ensures { IsClosedRun A.spec ended said updates serving.items result.0 result.1 }
 {
-    let mut updates = updates;
-    let steps = all_steps(&updates, serving.as_slice());
-    let clients = close_all(&mut updates, serving, room);
-    Served {
-        status: status_of(&updates, clients.as_slice()),
+    let refused = updates.has_refused();
+    let (mut counted, rest) = updates.end();
+    let steps = all_steps(&counted, serving.as_slice());
+    let clients = close_all(&mut counted, serving, room);
+    let served = Served {
+        status: status_of(refused, clients.as_slice()),
         updates: ended,
         said,
-        journal: updates.close(rt),
+        journal: counted.close(rt),
         clients,
         steps,
-    }
+    };
+    (served, rest)
 }
 
 /// Answers the rows of a stream by `updates`, while each client of `clients` has a thread, which
 /// serves it as in `run_serve`. The publisher of `updates` and `seats` are from one call of
 /// `open_seats`. This publisher may have published batches since then. When the rows have ended,
 /// their reader is dropped. The run ends when the rows and all clients have ended:
-/// `IsPublishingRun`.
+/// `IsPublishingRun`. Also returns what `updates` has beside its publisher.
 ///
 /// There is an error only if the system has no thread for a client, which the error names. Then
-/// nothing was read, and the publisher is closed. The error returns all inputs except the rows, and
-/// the publisher's journal.
+/// nothing was read, and the publisher is closed. The error returns the writer `said`, the
+/// publisher's journal, what `updates` has beside its publisher, and the clients.
 pub fn serve_seats<
     R: Read + Drop,
     W: Write,
-    J,
+    J: Write,
     Q: Read + Drop + Send,
     V: Reopens<Q> + Drop + Send,
     T: Threads + Wait + Sync,
@@ -383,17 +395,18 @@ pub fn serve_seats<
     updates: A,
     clients: Vec<Client<Q, V>>,
     seats: Seats<'_, Q, V, T, L, K>,
-) -> Result<Served<W, J, V>, (ServedError, W, J, Vec<Client<Q, V>>)>
+) -> Result<(Served<W, J, V>, A::Rest), (ServedError, W, J, A::Rest, Vec<Client<Q, V>>)>
     requires clients { 0 < vec_len clients }
     requires seats { AreSeats (A.spec.publisher updates).source (vec_len clients) seats }
     requires state { A.may_stand 1 updates }
     requires invariant { A.spec.invariant updates }
-    ensures served { IfOk result (IsPublishingRun A.spec A.answers A.fails K.kinds
-        (R.remaining rows) W.contents Q.remaining V.contents V.reopens said updates clients.items) }
+    ensures served { IfOk result (λ ran. IsPublishingRun A.spec A.answers A.fails K.kinds
+        (R.remaining rows) W.contents Q.remaining V.contents V.reopens said updates clients.items
+        ran.0 ran.1) }
     ensures error { IfErr result (λ e. (client : ℕ) × (e.0 ≡ ServedError.NoThread client)
         × (0 < client) × (client ≤ vec_len clients)) }
     ensures back { IfErr result (λ e. (e.1 ≡ said) × (e.2 ≡ (A.spec.publisher updates).journal)
-        × (e.3 ≡ clients)) }
+        × (e.3 ≡ A.spec.rest updates) × (e.4 ≡ clients)) }
 {
     let Seats {
         seats,
@@ -419,7 +432,8 @@ pub fn serve_seats<
         Ok((serving, ended)) => Ok(close_run(rt, ended, said, updates, serving, served)),
         Err((NoThread { job }, clients)) => {
             let error = ServedError::NoThread { client: job };
-            Err((error, said, updates.close(rt), clients))
+            let (counted, rest) = updates.end();
+            Err((error, said, counted.close(rt), rest, clients))
         }
     }
 }
@@ -456,7 +470,10 @@ fn serve_under<
         Err((error, journal)) => return Err((ServedError::Run(error), said, journal, clients)),
     };
     let own = Updates::new(alloc, publisher);
-    serve_seats(rt, alloc, updates, said, own, clients, seats)
+    match serve_seats(rt, alloc, updates, said, own, clients, seats) {
+        Ok((served, ())) => Ok(served),
+        Err((error, said, journal, (), clients)) => Err((error, said, journal, clients)),
+    }
 }
 
 /// As `run_serve`, but the type `L` is the ledger of the permits, and `blank` has the parts of this

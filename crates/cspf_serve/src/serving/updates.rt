@@ -3,15 +3,14 @@
 
 ghost use Rattle.std.specs.Prelude.{◌≡◌, []};
 ghost use Rattle.cspf_stream.specs.OpenChanges.{AreOpen};
-ghost use Rattle.cspf_publish.specs.JournalSteps.{AreJournalSteps};
-ghost use Rattle.cspf_serve.specs.Publishing.{AreAllCounted};
 ghost use Rattle.cspf_serve.specs.UpdatesStates.{IsFresh};
 
 use crate::line::refusal_of;
+use crate::serving::counted::Counted;
 use crate::serving::publishing::Publishing;
 use cspf_ero::reply_line;
 use cspf_model::{Batch, Request, one_refusal};
-use cspf_publish::{Publisher, SeenSteps, Told};
+use cspf_publish::Publisher;
 use cspf_rows::Row;
 use cspf_stream::{Answering, BatchRefusal, Rows, Sink, StreamLine};
 use csv::ByteRecord;
@@ -19,43 +18,6 @@ use std::alloc::{AllocError, Global};
 use std::io::Write;
 use std::marker::Model;
 use std::sync::Wait;
-
-/// The publisher, and the steps of its journal, up to the step that counts the publisher's last
-/// batch as published.
-pub(super) struct Counted<J> {
-    publisher: Publisher<J>,
-    steps: SeenSteps,
-}
-
-impl<J> Model for Counted<J> {
-    ghost use Rattle.cspf_serve.specs.Publishing.{AreAllCounted};
-    ghost use Rattle.cspf_serve.specs.UpdatesStates.{CountedState};
-
-    ghost Value = { CountedState J };
-
-    ghost view = { λ c. record { publisher = c.publisher; steps = c.steps } };
-
-    ghost invariant = { λ c. AreAllCounted c.publisher c.steps };
-}
-
-impl<J: Write> Counted<J> {
-    /// The publisher, with the steps that its journal has at this time.
-    fn new(publisher: Publisher<J>) -> Counted<J>
-        ensures { result.publisher ≡ publisher }
-    {
-        let steps = publisher.steps();
-        Counted { publisher, steps }
-    }
-
-    /// The steps of the journal up to the step that counts the publisher's last batch as published.
-    fn steps(&self) -> SeenSteps
-        ensures same { result ≡ self.now.steps }
-        ensures journal { AreJournalSteps result.steps }
-        ensures counted { AreAllCounted self.now.publisher result }
-    {
-        self.steps.copy()
-    }
-}
 
 impl<J: Write, R: Wait> Sink<R> for Counted<J> {
     ghost use Rattle.cspf_serve.specs.UpdatesStates.{publisher_spec};
@@ -161,18 +123,12 @@ impl<J: Write> Updates<J> {
 impl<J: Write, T: Wait> Publishing<T> for Updates<J> {
     type Journal = J;
 
+    type Rest = ();
+
     ghost use Rattle.cspf_serve.specs.UpdatesSource.{updates_have_one_source};
     ghost use Rattle.cspf_serve.specs.UpdatesStates.{updates_spec};
 
     ghost spec = { updates_spec J.contents };
-
-    fn steps(&self) -> SeenSteps {
-        self.rows.sink.steps()
-    }
-
-    fn tell(&mut self) -> Told {
-        self.rows.sink.publisher.tell()
-    }
 
     fn last_line(&self, alloc: Global) -> Result<Vec<u8>, AllocError> {
         self.rows.changes.last_line(alloc)
@@ -182,7 +138,7 @@ impl<J: Write, T: Wait> Publishing<T> for Updates<J> {
         self.rows.refused > 0 || self.rows.changes.count > 0
     }
 
-    fn close<R: Wait>(self, rt: &R) -> J {
+    fn end(self) -> (Counted<J>, ()) {
         let Updates { rows } = self;
         let Rows {
             sink,
@@ -190,11 +146,7 @@ impl<J: Write, T: Wait> Publishing<T> for Updates<J> {
             answers: _,
             refused: _,
         } = rows;
-        let Counted {
-            publisher,
-            steps: _,
-        } = sink;
-        publisher.close(rt)
+        (sink, ())
     }
 
     ghost one_source = { updates_have_one_source J.contents };

@@ -9,7 +9,7 @@ pub learn-requires : goal.learn-requires
 learn-requires g c =
     let item = c.client-item.result in
     let lt : c.loop-client.client-index < length c.args.serving.now = omega arith in
-    ap (λ (k : KnownSteps). k.source) c.steps.ensures ∙ (seen_source c.args.serving.now c.loop-client.client-index item (g.A.Publishing.spec.publisher c.args.updates.now).source lt c.client-item.is c.requires
+    ap (λ (k : KnownSteps). k.source) c.steps.ensures ∙ (seen_source c.args.serving.now c.loop-client.client-index item c.args.counted.now.publisher.source lt c.client-item.is c.requires
     ∙ sym c.loop-client.invariant.counted.source)
 
 pub loop-client-preserved : goal.loop-client-preserved
@@ -17,7 +17,7 @@ loop-client-preserved g c =
     let item = c.client-item.result in
     let lt : c.loop-client.client-index < length c.args.serving.now = omega arith in
     let own : item.state.steps.source ≡ c.loop-client.all.source =
-    seen_source c.args.serving.now c.loop-client.client-index item (g.A.Publishing.spec.publisher c.args.updates.now).source lt c.client-item.is c.requires ∙ sym c.loop-client.invariant.counted.source in
+    seen_source c.args.serving.now c.loop-client.client-index item c.args.counted.now.publisher.source lt c.client-item.is c.requires ∙ sym c.loop-client.invariant.counted.source in
     record {
       journal = c.learn.ensures.journal;
       updates = IsPrefix-trans _ _ _ c.loop-client.invariant.updates c.learn.ensures.own;

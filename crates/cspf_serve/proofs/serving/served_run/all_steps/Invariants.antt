@@ -8,7 +8,7 @@ use Rattle.cspf_serve.proofs.serving.served_run.all_steps.Given as goal
 abbrev pub invariant-loop-client : goal.invariant-loop-client
 invariant-loop-client g l = record {
   journal : AreJournalSteps l.all.steps;
-  updates : IsPrefix (g.A.Publishing.spec.steps l.fn.updates).steps l.all.steps;
-  counted : AreAllCounted (g.A.Publishing.spec.publisher l.fn.updates) l.all;
+  updates : IsPrefix l.fn.counted.steps.steps l.all.steps;
+  counted : AreAllCounted l.fn.counted.publisher l.all;
   clients : All (λ c. AreFirstSteps l.all c.state.steps) (take l.client-index l.serving);
 }

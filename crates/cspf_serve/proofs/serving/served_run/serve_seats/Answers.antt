@@ -42,4 +42,4 @@ returns-in-Ok-clause-served g c =
     let answered = answered_of g.K.Kinds.kinds g.V.Reopens.reopens g.Q.Read.remaining g.V.Write.contents source 1 c.seats.inside.seats.items c.args.clients.items c.in-Ok.serving.items (rw c.seats.view_is c.requires.seats.each) c.seats.invariant.0 c.in-Ok.ensures.done.0 in
     let run = rw c.open_records.ensures.rows at c.in-Ok.ensures.done.1 in
     publishing_run g.K.Kinds.kinds g.V.Reopens.reopens g.Q.Read.remaining g.V.Write.contents source g.A.Publishing.spec g.A.Answering.answers g.A.Answering.fails g.W.Write.contents (g.R.Read.remaining c.args.rows) c.args.said _ c.args.updates _ c.args.clients.items
-    c.in-Ok.serving.items _ c.close_run.result run answered c.close_run.ensures
+    c.in-Ok.serving.items _ c.close_run.result.0 c.close_run.result.1 run answered c.close_run.ensures

@@ -1,7 +1,8 @@
 use Rattle.std.proofs.Common.{refl, sym, ap, subst, ◌∙◌, arith}
 use Rattle.cspf_model.specs.Numbered.{NumberedChanges}
 use Rattle.cspf_stream.specs.Lines.{version_line}
-use Rattle.cspf_serve.specs.UpdatesStates.{CountedState, publisher_spec}
+use Rattle.cspf_serve.specs.UpdatesStates.{publisher_spec}
+use Rattle.cspf_serve.specs.Counted.{CountedState}
 use Rattle.cspf_serve.proofs.UpdatesSteps.{published_whole, apply_error_whole}
 use Rattle.cspf_serve.proofs.serving.updates.CountedSink.accept.Goals as goal
 

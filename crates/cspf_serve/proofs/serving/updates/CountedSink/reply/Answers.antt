@@ -5,7 +5,7 @@ use Rattle.cspf_model.specs.Best.{Answer, IsBestAnswer}
 use Rattle.cspf_model.specs.Changes.{database_after}
 use Rattle.cspf_ero.specs.ReplyLine.{IsReply}
 use Rattle.cspf_model.specs.Outcome.{answer_of}
-use Rattle.cspf_serve.specs.UpdatesStates.{CountedState}
+use Rattle.cspf_serve.specs.Counted.{CountedState}
 use Rattle.cspf_serve.proofs.serving.updates.CountedSink.reply.Goals as goal
 
 pub returns-clause-line : goal.returns-clause-line
