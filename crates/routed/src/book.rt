@@ -2,7 +2,7 @@
 //! hold. Each line is written as soon as it is known.
 
 use crate::devices::{INPUT, NewFile, OUTPUT, created, flushed, held_places};
-use crate::noted::Noted;
+use crate::noted::{Fault, Noted};
 use crate::options::{
     ACCEPT_TORN, Asked, COMPACT, Call, CommandOption, CommandText, EXPLAIN, KEEP,
 };
@@ -110,18 +110,18 @@ pub(crate) fn answer(call: &Call<'_, '_>) -> Ran {
         let _held = held_places(call.rt);
         let mut keep = created(call, KEEP)?;
         let ran = answer_rows(call.rt, &mut keep);
-        explain_keep(call, &keep);
+        explain_fault(call, KEEP, &keep);
         flushed(&mut keep, ran)
     } else {
         answer_rows(call.rt, &mut Noted::new(KEEP, io::sink()))
     }
 }
 
-/// With `--explain`, writes which call on the file of accepted rows failed, if one failed.
-fn explain_keep(call: &Call<'_, '_>, keep: &NewFile) {
+/// With `--explain`, writes which call on the file that an option gives failed, if one failed.
+pub(crate) fn explain_fault(call: &Call<'_, '_>, option: &str, file: &NewFile) {
     if call.has(EXPLAIN) {
-        if let Some(fault) = keep.fault() {
-            say_at(call.rt, KEEP, call.value(KEEP), &fault);
+        if let Some(fault) = file.fault() {
+            say_at(call.rt, option, call.value(option), &fault);
         }
     }
 }
@@ -143,15 +143,28 @@ fn write_compact(call: &Call<'_, '_>) -> Ran {
     let mut reader = Noted::new(INPUT, call.rt.reader());
     match compacted(call, &mut reader) {
         Ok(text) => write_all(call, &text, 0),
-        Err(CompactStop::Refused { row, line }) => {
-            explain_refused(call, Some(row), &line);
+        Err(why) => write_refused(call, INPUT, why, reader.fault()),
+    }
+}
+
+/// Writes the line that refuses the rows of a file or stream with this name. `read` is the last call
+/// on it that failed, if any.
+pub(crate) fn write_refused(
+    call: &Call<'_, '_>,
+    name: &str,
+    why: CompactStop,
+    read: Option<Fault>,
+) -> Ran {
+    match why {
+        CompactStop::Refused { row, line } => {
+            explain_refused(call, name, Some(row), &line);
             write_all(call, &line, UNFIT)
         }
-        Err(CompactStop::Unended { line }) => {
-            explain_refused(call, None, &line);
+        CompactStop::Unended { line } => {
+            explain_refused(call, name, None, &line);
             write_all(call, &line, UNFIT)
         }
-        Err(CompactStop::Stream(error)) => Err(Stopped::Stream(error).by(reader.fault(), None)),
+        CompactStop::Stream(error) => Err(Stopped::Stream(error).by(read, None)),
     }
 }
 
@@ -178,13 +191,13 @@ fn write_all(call: &Call<'_, '_>, text: &[u8], status: u8) -> Ran {
 }
 
 /// With `--explain`, writes which row is refused, and why. Without a row, it is the end of the rows.
-fn explain_refused(call: &Call<'_, '_>, row: Option<u64>, line: &[u8]) {
+fn explain_refused(call: &Call<'_, '_>, name: &str, row: Option<u64>, line: &[u8]) {
     if call.has(EXPLAIN) {
         if let Ok(line) = str::from_utf8(line) {
             let line = line.trim_end();
             match row {
-                Some(row) => say_of(call.rt, INPUT, &RefusedLine { row, line }),
-                None => say_of(call.rt, INPUT, &line),
+                Some(row) => say_of(call.rt, name, &RefusedLine { row, line }),
+                None => say_of(call.rt, name, &line),
             }
         }
     }

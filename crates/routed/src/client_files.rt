@@ -4,7 +4,7 @@ ghost use Rattle.std.specs.Prelude.{◌≡◌, ◌<◌, ◌≤◌, length, IfOk,
 
 use crate::bounded::Bounded;
 use crate::noted::Fault;
-use crate::options::{CLIENT, Call, EXPLAIN, FIGURES, JOURNAL};
+use crate::options::{BEGIN, CLIENT, Call, EXPLAIN, FIGURES, JOURNAL, KEEP};
 use crate::seats::{Closing, RunSeat, RunSeats};
 use crate::standard_error::{say, say_at, say_of, stop};
 use crate::statuses::REFUSED;
@@ -75,8 +75,10 @@ fn check_names(rt: &HostRuntime, words: &[&str]) -> Result<(), Stopped> {
 fn check_shared(call: &Call<'_, '_>, words: &[&str]) -> Result<(), Stopped> {
     let mut all = Vec::new(call.rt.alloc());
     add(call.rt, &mut all, call.value(JOURNAL), true)?;
-    if call.gives(FIGURES) {
-        add(call.rt, &mut all, call.value(FIGURES), true)?;
+    for (option, is_written) in [(FIGURES, true), (KEEP, true), (BEGIN, false)] {
+        if call.gives(option) {
+            add(call.rt, &mut all, call.value(option), is_written)?;
+        }
     }
     for word in words {
         add_client(call.rt, &mut all, ClientNames::read(word))?;

@@ -24,6 +24,7 @@ mod options;
 mod refused_rows;
 mod seats;
 mod serve;
+mod served_book;
 mod snapshot;
 mod solve;
 mod stack;

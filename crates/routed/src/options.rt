@@ -21,8 +21,15 @@ pub const UPDATES: &str = "updates";
 /// The option that gives the path of the file of replies.
 pub const REPLIES: &str = "replies";
 
-/// The option that gives the path of the file of the rows that `book` accepts.
+/// The option that gives the path of the file of the rows that `book`, or `serve` with a book,
+/// accepts.
 pub const KEEP: &str = "keep";
+
+/// The flag with which `serve` counts placements.
+pub const BOOK: &str = "book";
+
+/// The option that gives the path of the file of the rows with which `serve` begins its book.
+pub const BEGIN: &str = "begin";
 
 /// The flag with which `book` writes the compact stream that makes the same book.
 pub const COMPACT: &str = "compact";
@@ -77,6 +84,12 @@ pub enum CommandOption {
     Replies,
     /// The new file of the accepted rows.
     Keep,
+    /// Whether `serve` has a book.
+    Book,
+    /// The file of the rows with which `serve` begins its book.
+    Begin,
+    /// The new file of the rows that a served book accepts.
+    KeepServed,
     /// Whether the compact stream of a book is written.
     Compact,
     /// Whether to skip what follows the last whole batch, or the last whole row about a placement, of
@@ -114,7 +127,9 @@ impl CommandOption {
             CommandOption::Updates => UPDATES,
             CommandOption::Requests => REQUESTS,
             CommandOption::Replies => REPLIES,
-            CommandOption::Keep => KEEP,
+            CommandOption::Keep | CommandOption::KeepServed => KEEP,
+            CommandOption::Book => BOOK,
+            CommandOption::Begin => BEGIN,
             CommandOption::Compact => COMPACT,
             CommandOption::Clients => CLIENT,
             CommandOption::ClientsFrom => CLIENTS_FROM,
@@ -139,6 +154,12 @@ impl CommandOption {
             CommandOption::Requests => "The file of requests",
             CommandOption::Replies => "The file of replies",
             CommandOption::Keep => "The file to make of the rows that are accepted",
+            CommandOption::Book =>
+                "Take the rows of routed book, and count placements; with --keep",
+            CommandOption::Begin => "The rows that the book begins with; with --book",
+            CommandOption::KeepServed => {
+                "The file to make of the rows of the book that are accepted; with --book"
+            }
             CommandOption::Compact => "Write few rows that make the same book, and no other line",
             CommandOption::AcceptTornBook => {
                 "Leave out what follows the last whole end, place, release or held row; with --compact"
@@ -188,6 +209,13 @@ impl CommandOption {
                 .action(ArgAction::SetTrue)
                 .requires_arg(COMPACT)?
                 .conflicts_with(KEEP),
+            CommandOption::Book => arg
+                .action(ArgAction::SetTrue)
+                .requires_arg(KEEP)?
+                .conflicts_with(FIGURES),
+            CommandOption::Begin | CommandOption::KeepServed => {
+                Ok(arg.value_name("FILE").requires_arg(BOOK)?)
+            }
             other => Ok(other.alone(arg)),
         }
     }

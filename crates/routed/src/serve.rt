@@ -1,5 +1,6 @@
 //! `routed serve` publishes updates as they come in on standard input, and answers clients meanwhile.
-//! Each client has two files: one for its requests and one for its replies.
+//! Each client has two files: one for its requests and one for its replies. With `--book` the updates
+//! are the rows of a book (`served_book.rt`).
 ghost use Rattle.std.specs.Prelude.{◌<◌, ◌≤◌, length, vec_len};
 
 use crate::bounded::unfit_of;
@@ -9,10 +10,11 @@ use crate::devices::{INPUT, NewFile, OUTPUT, created, flushed, held_places};
 use crate::figures::Figures;
 use crate::noted::{Fault, Noted};
 use crate::options::{
-    Asked, CLIENT, Call, CommandOption, CommandText, EXCEPT, EXPLAIN, FIGURES, JOURNAL, PAIRS,
-    REOPEN,
+    Asked, BOOK, CLIENT, Call, CommandOption, CommandText, EXCEPT, EXPLAIN, FIGURES, JOURNAL,
+    PAIRS, REOPEN,
 };
 use crate::seats::{Closing, RunSeats, Saying, UpdatesRows};
+use crate::served_book::serve_book;
 use crate::stack::grow_stack;
 use crate::standard_error::say_at;
 use crate::stopped::{Ran, Stopped};
@@ -41,6 +43,9 @@ pub const COMMAND: CommandText = CommandText {
         CommandOption::Pairs,
         CommandOption::Reopen,
         CommandOption::Figures,
+        CommandOption::Book,
+        CommandOption::Begin,
+        CommandOption::KeepServed,
         CommandOption::Explain,
     ],
 };
@@ -92,13 +97,30 @@ version, and the version of the last reply. Numbers have spaces before them. The
 line have the same N, unless the file was written while it was read. If FILE can't be made or written,
 the run goes on, and with --explain a line says so.
 
+With --book standard input has the rows of routed book, and standard output has its lines. Placements
+are counted, and clients ask the base with the bandwidth that the placements leave. Each accepted end,
+place, release or held row makes a version and publishes one batch. So V counts published batches, and
+the N of end,N,K counts batches of the base. The text of an accepted row goes to the new file of --keep,
+its batch to the journal, then it takes effect, and then its lines are written. If a write to --keep
+fails after W bytes, the row is refused by keep W. If a write to the journal fails, it is refused by
+journal W, and the next run has the row as a whole or not at all. Each later end, place, release, held
+and offer row is refused by stopped, and clients are answered on.
+
+--begin FILE has rows of a book, any number of them, which are read first. If one is refused, or changes
+are open at the end, standard output has only the line that says so, and the status is 2. What the book
+leaves is published in at most 5 batches, and their number is the first version. Then come over lines
+for all links on which more is counted than they have. Batches of the base go on with the number after
+those of FILE. A book goes on day after day:
+  cat BEGIN KEPT | routed book --compact --accept-torn > NEXT
+  routed serve --book --begin NEXT --keep KEPT2 --journal JOURNAL2 --client IN=OUT
+
 Status:
   0  everything was accepted
   1  the command line was refused
   2  a row or a batch was refused, or changes were left open
   3  out of memory for the updates, standard input or output failed, a file can't be opened, the
-     journal exists already, or a client has no thread: then nothing is read; the last line of standard
-     error is routed: stopped, and with --explain the line before it says why
+     journal or the file of --keep exists already, or a client has no thread: then nothing is read; the
+     last line of standard error is routed: stopped, and with --explain the line before it says why
 With --explain a line says of each client that ended before its rows did why it ended.";
 
 /// Serves the clients if their files can be used.
@@ -164,6 +186,9 @@ fn serve<T: Threads + Wait + Sync, K: Kinds + Send>(
         figures.write(handle);
     }
     let clients = open_clients(call, words, &seats)?;
+    if call.has(BOOK) {
+        return serve_book::<T, K>(call, &seats, clients, words);
+    }
     let mut journal = created(call, JOURNAL)?;
     let ran = run::<T, K>(call, &seats, &mut journal, clients, words);
     if let Some(figures) = &seats.figures {
@@ -210,9 +235,7 @@ fn run<'a, T: Threads + Wait + Sync, K: Kinds + Send>(
                 clients,
                 steps: _,
             } = served;
-            if call.has(EXPLAIN) {
-                explain_ends(rt, words, &clients);
-            }
+            explain_ends(call, words, &clients);
             match ended {
                 Ok(()) => Ok(status),
                 Err(error) => Err(Stopped::Stream(error).by(updates.fault(), said.fault())),
@@ -222,11 +245,18 @@ fn run<'a, T: Threads + Wait + Sync, K: Kinds + Send>(
     }
 }
 
-/// Writes which clients ended before their rows ended, and why.
-fn explain_ends<T>(rt: &HostRuntime, words: &[&str], clients: &[ServedClient<Closing<'_, T>>]) {
+/// With `--explain`, writes which clients ended before their rows ended, and why.
+pub(crate) fn explain_ends<T>(
+    call: &Call<'_, '_>,
+    words: &[&str],
+    clients: &[ServedClient<Closing<'_, T>>],
+) {
+    if !call.has(EXPLAIN) {
+        return;
+    }
     for index in 0..words.len() {
         if let Some(client) = clients.get(index) {
-            explain_end(rt, index.saturating_add(1), words[index], client);
+            explain_end(call.rt, index.saturating_add(1), words[index], client);
         }
     }
 }

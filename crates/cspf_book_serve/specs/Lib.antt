@@ -1,0 +1,5 @@
+-- The definitions that this crate's contracts use.
+pub mod ShownTexts
+pub mod ShownStates
+pub mod ServedBooks
+pub mod BookUpdates
