@@ -5,6 +5,9 @@
    REFUSE_ON      if set, each later call is refused as well
    REFUSE_SHORT   if set, a read or write moves one byte in place of failing
    REFUSE_BREAK   if set, a read or write fails as one that a signal broke off
+   REFUSE_KILL    if set, the program is killed at that read or write, with REFUSE_SHORT after it moved one byte
+   REFUSE_PAUSE   the milliseconds that a read or write waits in place of failing
+   REFUSE_FILE    if set, only reads and writes of files whose names end so are counted
    REFUSE_COUNTS  the file that says at the program's end how many calls there were, and how many were refused
 
    Only calls from the program's own code count, none from the C library's. */
@@ -14,12 +17,14 @@
 #include <fcntl.h>
 #include <link.h>
 #include <pthread.h>
+#include <signal.h>
 #include <stdarg.h>
 #include <stdatomic.h>
 #include <stdio.h>
 #include <stdlib.h>
 #include <string.h>
 #include <sys/syscall.h>
+#include <time.h>
 #include <unistd.h>
 
 enum kind { NONE, MALLOC, READ, WRITE, OPEN, THREAD };
@@ -28,7 +33,8 @@ static const int errors[] = {0, ENOMEM, EIO, ENOSPC, EMFILE, EAGAIN};
 
 static enum kind kind;
 static long at;
-static int goes_on, shortens, error;
+static int goes_on, shortens, kills, pause_ms, error;
+static const char *file_name;
 static uintptr_t code_start, code_end;
 static _Atomic long calls, refused;
 
@@ -51,6 +57,9 @@ __attribute__((constructor)) static void start(void)
     at = number ? atol(number) : 0;
     goes_on = getenv("REFUSE_ON") != NULL;
     shortens = getenv("REFUSE_SHORT") != NULL;
+    kills = getenv("REFUSE_KILL") != NULL;
+    pause_ms = getenv("REFUSE_PAUSE") ? atoi(getenv("REFUSE_PAUSE")) : 0;
+    file_name = getenv("REFUSE_FILE");
     dl_iterate_phdr(find_code, NULL);
     for (enum kind k = MALLOC; call && k <= THREAD; k++)
         if (!strcmp(call, names[k])) {
@@ -99,16 +108,36 @@ int posix_memalign(void **to, size_t align, size_t size)
     return made ? 0 : ENOMEM;
 }
 
-static ssize_t moved(long call, int is_refused, int file, const void *bytes, size_t length)
+static int is_named(int file)
 {
-    if (is_refused && !shortens)
-        return -1;
-    return syscall(call, file, bytes, is_refused && length > 1 ? 1 : length);
+    char link[64], name[4096];
+    snprintf(link, sizeof link, "/proc/self/fd/%d", file);
+    ssize_t size = readlink(link, name, sizeof name), last = strlen(file_name);
+    return size >= last && !memcmp(name + size - last, file_name, last);
 }
 
-ssize_t read(int file, void *to, size_t length) { return moved(SYS_read, REFUSED(READ), file, to, length); }
+static ssize_t moved(long call, int is_refused, int file, const void *bytes, size_t length)
+{
+    if (!is_refused)
+        return syscall(call, file, bytes, length);
+    if (pause_ms) {
+        struct timespec wait = {pause_ms / 1000, pause_ms % 1000 * 1000000L};
+        nanosleep(&wait, NULL);
+        return syscall(call, file, bytes, length);
+    }
+    if (!shortens && !kills)
+        return -1;
+    ssize_t count = shortens ? syscall(call, file, bytes, length > 1 ? 1 : length) : 0;
+    if (kills)
+        syscall(SYS_kill, getpid(), SIGKILL);
+    return count;
+}
 
-ssize_t write(int file, const void *from, size_t length) { return moved(SYS_write, REFUSED(WRITE), file, from, length); }
+#define REFUSED_OF(k, file) ((!file_name || is_named(file)) && REFUSED(k))
+
+ssize_t read(int file, void *to, size_t length) { return moved(SYS_read, REFUSED_OF(READ, file), file, to, length); }
+
+ssize_t write(int file, const void *from, size_t length) { return moved(SYS_write, REFUSED_OF(WRITE, file), file, from, length); }
 
 int openat(int folder, const char *path, int flags, ...)
 {

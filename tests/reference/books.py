@@ -259,16 +259,21 @@ class Book:
         return f"left {key_text(asked)} v{self.version} {' '.join(texts)}"
 
 
+class Fault(Refused):
+    """A file doesn't take the whole text of a row. The row is refused, and after it each row that could change the book."""
+
+
 # A row that was read: the book after it, the open changes, its lines, what is written to `--keep` for it, and whether it is refused.
 Step = collections.namedtuple("Step", "book changes lines kept is_refused")
 
 
-def walked(rows, room=math.inf):
-    """A step for each row, however many there are. `room` is how many bytes the file of `--keep` takes: the row that has more than it takes
-    is refused, and after it each row that could change the book."""
-    book, changes, is_stopped = Book(), [], False
+def walked(rows, room=math.inf, book=None, publish=lambda before, after, changes: None):
+    """A step for each row, however many there are, of a new book or of one that goes on. `room` is how many bytes the file of `--keep`
+    takes. Where a row is kept, `publish` gets the book before it and after it, and the changes of its batch, and may raise Fault, too."""
+    book, changes, is_stopped = book or Book(), [], False
     for at, fields in enumerate(formats.records(rows), 1):
         subject, before, lines, text, kept, is_refused = f"row {at}", copy.copy(book), [], ",".join(fields) + "\n", "", False
+        open_ones = []
         try:
             kind, content = row(fields)
             if kind == "end":
@@ -289,24 +294,32 @@ def walked(rows, room=math.inf):
                 lines = [getattr(book, kind)(content)]
             if book.version > before.version:
                 if len(text) > room:
-                    book, kept, is_stopped = before, text[:room], True
-                    raise Refused(f"keep {room}")
+                    kept = text[:room]
+                    raise Fault(f"keep {room}")
                 kept, room = text, room - len(text)
+                publish(before, book, open_ones)
         except Refused as words:
+            if isinstance(words, Fault):
+                book, is_stopped = before, True
             lines, is_refused = [f"{subject} refused: {words}"], True
         yield Step(book, changes, lines, kept, is_refused)
 
 
+def ended(walk, most=math.inf):
+    """The status of a run, its steps, and the line that comes after them, if one does. More rows than the most aren't read."""
+    found, changes, is_refused = [], [], False
+    for step in walk:
+        if len(found) == most:
+            return 2, found, ["too many rows"]
+        found.append(step)
+        changes, is_refused = step.changes, is_refused or step.is_refused
+    return 2 if is_refused or changes else 0, found, [f"unended {len(changes)}"] if changes else []
+
+
 def steps(rows, room=math.inf):
     """The status of a run, and for each row its lines and what is written to `--keep` for it; the last line comes after them."""
-    found, changes, is_refused = [], [], False
-    for at, step in enumerate(walked(rows, room), 1):
-        if at > MOST_ROWS:
-            return 2, [*found, (["too many rows"], "")]
-        found.append((step.lines, step.kept))
-        changes, is_refused = step.changes, is_refused or step.is_refused
-    last = [([f"unended {len(changes)}"], "")] if changes else []
-    return 2 if is_refused or changes else 0, found + last
+    status, found, last = ended(walked(rows, room), MOST_ROWS)
+    return status, [*((step.lines, step.kept) for step in found), *([(last, "")] if last else [])]
 
 
 def book(rows):

@@ -46,18 +46,27 @@ def settled(rows):
     return b"".join(line + b"\n" for line in lines)
 
 
+def whole(rows):
+    """The book of rows. Where a row is refused or changes are open at the end there is none, but the line that says so, and in which row.
+    No row is read behind a refused one."""
+    book, changes = books.Book(), []
+    for at, step in enumerate(books.walked(rows), 1):
+        if step.is_refused:
+            return None, step.lines[0], f"row {at}: "
+        book, changes = step.book, step.changes
+    if changes:
+        return None, f"unended {len(changes)}", ""
+    return book, "", ""
+
+
 def run(rows, torn=False):
-    """The status of a run, what it writes, and what it says with `--explain`. No row is read behind a refused one."""
+    """The status of a run, what it writes, and what it says with `--explain`."""
     given = rows.encode("latin-1") if isinstance(rows, str) else rows
     taken = settled(given) if torn else given
     said = f"{INPUT} {len(given) - len(taken)} bytes left out\n" if len(taken) < len(given) else ""
-    book, changes = books.Book(), []
-    for at, step in enumerate(books.walked(taken.decode("latin-1")), 1):
-        if step.is_refused:
-            return 2, f"{step.lines[0]}\n", f"{said}{INPUT} row {at}: {step.lines[0]}\n"
-        book, changes = step.book, step.changes
-    if changes:
-        return 2, f"unended {len(changes)}\n", f"{said}{INPUT} unended {len(changes)}\n"
+    book, line, at = whole(taken.decode("latin-1"))
+    if book is None:
+        return 2, f"{line}\n", f"{said}{INPUT} {at}{line}\n"
     return 0, book_text(book), said
 
 

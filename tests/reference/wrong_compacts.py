@@ -47,11 +47,11 @@ def writes_hops_with_all_bits(it):
 
 
 def goes_on_behind_a_refused_row(it):
-    it.run = rebound(it.run, "if step.is_refused:", "if False:")
+    it.whole = rebound(it.whole, "if step.is_refused:", "if False:")
 
 
 def writes_the_book_of_open_changes(it):
-    it.run = rebound(it.run, "if changes:", "if False:")
+    it.whole = rebound(it.whole, "if changes:", "if False:")
 
 
 # ---- what is left out

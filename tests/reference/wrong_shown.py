@@ -140,8 +140,9 @@ def says_nothing_of_links_after_a_fault(it):
 
 
 def keeps_offers(it):
-    keeping = "kept, room = text, room - len(text)"
-    it.walked = rebound(it.walked, keeping, f'{keeping}\n            elif kind == "offer":\n                {keeping}')
+    accepted = "if book.version > before.version:"
+    it.walked = rebound(it.walked, accepted, f'if kind == "offer":\n                kept, room = text, room - len(text)\n'
+                                             f"            {accepted}")
 
 
 def keeps_no_held_rows(it):
