@@ -45,7 +45,7 @@ pub covered_at_first : IsBookCovered book_start.book
 covered_at_first l priority there below = omega arith
 
 -- If the base has the link, the link is covered at the priority, or X holds.
-abbrev CoveredOr : Type 0 → BookState → Link → ℕ → Type 0
+abbrev pub CoveredOr : Type 0 → BookState → Link → ℕ → Type 0
 CoveredOr X b l priority = IsLinkOf b.base l → IsCovered b.placements l priority ⊎ X
 
 -- ---- a line among other lines
@@ -105,12 +105,28 @@ module _ (l : Link) (priority : ℕ) where
 
   -- If rows change neither the book nor the number of accepted base batches and restored placements, `KeepsCover` holds for
   -- these rows.
-  stays : (s t : BookRunState) (lines : List ℕ) → changers t ≡ changers s → t.book ≡ s.book → KeepsCover s t lines
+  pub stays : (s t : BookRunState) (lines : List ℕ) → changers t ≡ changers s → t.book ≡ s.book → KeepsCover s t lines
   stays s t lines count book = kept s t lines count (λ X covered. subst (λ (b : BookState). CoveredOr X b l priority) (sym book) covered)
 
   -- `KeepsCover` holds for rows that only look.
   looks : (s t : BookRunState) (lines : List ℕ) → Looks s t → KeepsCover s t lines
   looks s t lines look = stays s t lines (look_same changers s t refl look) (look_same (λ (x : BookRunState). x.book) s t refl look)
+
+  -- If `KeepsCover` holds for rows and for the rows behind them, it holds for all of them.
+  pub both_cover : (s m t : BookRunState) (lines first second : List ℕ) → lines ≡ first ++ second → KeepsCover s m first → KeepsCover m t second → KeepsCover s t lines
+  both_cover s m t lines first second split a b = record {
+    count = omega (arith, a.count, b.count);
+    cover = λ X covered there. elim (b.cover (X ⊎ ((changers s < changers m) × IsSaidOver first l priority)) (a.cover X covered) there) [
+      | inl c ↦ inl c
+      | inr other ↦ elim other [
+        | inl before ↦ elim before [
+          | inl x ↦ inr (inl x)
+          | inr said ↦ inr (inr (omega (arith, said.0, b.count), said_first lines first second split said.1))
+        ]
+        | inr said ↦ inr (inr (omega (arith, said.0, a.count), said_second lines first second split said.1))
+      ]
+    ];
+  }
 
   module _ (laws : KeepCovered) (below : priority < 8) where
     -- If the link is covered, or X holds, this is still true after a request is placed
@@ -176,7 +192,7 @@ module _ (l : Link) (priority : ℕ) where
     step_covers s t (step.End number count) line (inr (why, unaccepted, is, line_is, after)) =
         stays s t line (ap changers after) (ap (λ (x : BookRunState). x.book) after)
 
-    row_covers : (place : ℕ) (s t : BookRunState) (r : Result BookRow BookRowError) (line : List ℕ)
+    pub row_covers : (place : ℕ) (s t : BookRunState) (r : Result BookRow BookRowError) (line : List ℕ)
         → IfOk r IsReadable → IsBookRowAnswered place s r line t → KeepsCover s t line
     row_covers place s t (Err error) line readable a = stays s t line (ap changers a.1) (ap (λ (x : BookRunState). x.book) a.1)
     row_covers place s t (Ok (book_row.Base row)) line readable a = step_covers s t (step_of row) line a
@@ -207,21 +223,7 @@ module _ (l : Link) (priority : ℕ) where
     unfolding AreAnswered
     rows_cover place s t [] lines a = stays s t lines (ap changers a.1) (ap (λ (x : BookRunState). x.book) a.1)
     rows_cover place s t (fields ∷ rows) lines a =
-        let first = row_covers place s a.1 (book_row_of fields) a.0 (readable_row fields) a.3 in
-        let rest = rows_cover (suc place) a.1 t rows a.2 a.5 in
-        record {
-          count = omega (arith, first.count, rest.count);
-          cover = λ X covered there. elim (rest.cover (X ⊎ ((changers s < changers a.1) × IsSaidOver a.0 l priority)) (first.cover X covered) there) [
-            | inl c ↦ inl c
-            | inr other ↦ elim other [
-              | inl before ↦ elim before [
-                | inl x ↦ inr (inl x)
-                | inr said ↦ inr (inr (omega (arith, said.0, rest.count), said_first lines a.0 a.2 a.4 said.1))
-              ]
-              | inr said ↦ inr (inr (omega (arith, said.0, first.count), said_second lines a.0 a.2 a.4 said.1))
-            ]
-          ];
-        }
+        both_cover s a.1 t lines a.0 a.2 a.4 (row_covers place s a.1 (book_row_of fields) a.0 (readable_row fields) a.3) (rows_cover (suc place) a.1 t rows a.2 a.5)
 
 pub rows_cover_since : KeepCovered → RowsCoverSince
 rows_cover_since laws place s t rows lines a l priority there below covered =

@@ -25,7 +25,7 @@ use Rattle.cspf_book.specs.declared.over.Over.{Over}
 use Rattle.cspf_book.specs.BookState.{BookState}
 use Rattle.cspf_book_run.specs.declared.book_row.BookRow.TheVariants as book_row
 use Rattle.cspf_book_run.specs.BookLines.{over_line, lost_line, base_line}
-use Rattle.cspf_book_run.specs.BookScript.{BookRunState, AreBaseLines, IsBookStepAnswered, after_answer, after_base_batch, after_open_change, after_refused_base_batch, open_base_batch}
+use Rattle.cspf_book_run.specs.BookScript.{BookRunState, AreBaseLines, IsBookStepAnswered, after_answer, after_base_batch, after_open_change, after_refused_base_batch}
 use Rattle.cspf_book_run.specs.BookSinks.{IsBatchCut, BookSinkState, book_spec, book_state_with}
 use Rattle.cspf_book_run.specs.BookStates.{KeepsBook, BookLeads}
 use Rattle.cspf_book_run.specs.Kept.{text_of_step}

@@ -18,7 +18,6 @@ use Rattle.cspf_model.specs.declared.request.Request.{Request}
 use Rattle.cspf_rows.specs.BatchText.{change_fields, batch_records}
 use Rattle.cspf_rows.specs.FieldValues.{field, number_at}
 use Rattle.cspf_rows.specs.JournalLaws.{IsChangeInRange}
-use Rattle.cspf_rows.specs.Records.{rows_of}
 use Rattle.cspf_rows.specs.Rows.{ask_row_of, is_kind, row_of}
 use Rattle.cspf_rows.specs.Says.{AreRowsRead, Says, SaysPut}
 use Rattle.cspf_rows.specs.Written.{end_fields}
@@ -41,12 +40,11 @@ use Rattle.cspf_book_run.specs.declared.book_row.BookRow.TheVariants as book_row
 use Rattle.cspf_book_run.specs.declared.book_row_error.BookRowError.{BookRowError}
 use Rattle.cspf_book_run.specs.declared.book_row_error.BookRowError.TheVariants as refused
 use Rattle.cspf_book_run.specs.BookRows.{held_as_asked, held_request_of, held_placement, held_route_of, held_as_read, id_row_of, left_key_of, place_row_of, release_row_of, held_row_of, offer_row_of, show_row_of, left_row_of, other_row_of, book_row_of}
-use Rattle.cspf_book_run.specs.BookScript.{BookRunState, book_start, book_answers, open_base_batch, after_refusal, after_open_change, after_answer, after_base_batch, IsBaseAccepted, AreBaseLines, IsPlaceAnswered, IsBookStepAnswered, IsBookRowAnswered}
+use Rattle.cspf_book_run.specs.BookScript.{BookRunState, book_answers, open_base_batch, after_refusal, after_open_change, after_answer, after_base_batch, IsBaseAccepted, AreBaseLines, IsPlaceAnswered, IsBookStepAnswered, IsBookRowAnswered}
 use Rattle.cspf_book_run.specs.Kept.{kept_answers, kept_of, text_of_row, text_of_step}
-use Rattle.cspf_book_run.specs.KeptLaws.{KeptIsTheBook}
 use Rattle.cspf_book_run.proofs.BookSteps.{another_version}
 use Rattle.cspf_book_run.proofs.Looks.{Looks, shown_looks, left_looks, look_same}
-use Rattle.cspf_book_run.proofs.KeptTexts.{StartsPlain, IsPlainRecord, kept_cut, change_plain, end_plain, lines_rows, rows_start}
+use Rattle.cspf_book_run.proofs.KeptTexts.{StartsPlain, IsPlainRecord, change_plain, end_plain, lines_rows, rows_start}
 
 -- ---- the ranges of the numbers in a row
 
@@ -295,7 +293,7 @@ module _ (laws : AreRowsReadBack) where
 -- The state of a run over the texts of accepted rows, between the texts of two rows. It has the book
 -- of the state `s` of the run that wrote these texts, and as many base batches and restored
 -- placements.
-abbrev bare : BookRunState → ℕ → BookRunState
+abbrev pub bare : BookRunState → ℕ → BookRunState
 bare s answers = record { book = s.book; batches = s.batches; restored = s.restored; changes = []; answers = answers; refused = 0; skipped = s.skipped }
 
 -- Let n rows lead from the state `s` to the state `t`, and let `text` have the texts of their
@@ -303,12 +301,12 @@ bare s answers = record { book = s.book; batches = s.batches; restored = s.resto
 -- the book of `s` to the book of `t`. The number of records plus the number of open changes of `t`
 -- is at most n plus the number of open changes of `s`. Open changes are changes since the last end
 -- row.
-record Remakes (n : ℕ) (s t : BookRunState) (text : List ℕ) : Type 0 where
-  records : List (List (List ℕ))
-  is : text ≡ flat_map (row_text default_writer) records
-  plain : AllByRecursion StartsPlain records
-  few : length records + length t.changes ≤ length s.changes + n
-  runs : (a : ℕ) → (b : ℕ) × (lines : List ℕ) × ((p : ℕ) → AreAnswered book_answers p (bare s a) records lines (bare t b))
+pub record Remakes (n : ℕ) (s t : BookRunState) (text : List ℕ) : Type 0 where
+  pub records : List (List (List ℕ))
+  pub is : text ≡ flat_map (row_text default_writer) records
+  pub plain : AllByRecursion StartsPlain records
+  pub few : length records + length t.changes ≤ length s.changes + n
+  pub runs : (a : ℕ) → (b : ℕ) × (lines : List ℕ) × ((p : ℕ) → AreAnswered book_answers p (bare s a) records lines (bare t b))
 
 -- The book, both counts and the skipped versions are unchanged.
 abbrev pub SameBook : BookRunState → BookRunState → Type 0
@@ -504,7 +502,7 @@ no_rows s t text none same = record {
   runs = λ a. (a, [], λ p. none_answered p (bare s a) (bare t a) (ap (λ (x : BookRunState). bare x a) same));
 }
 
-rows_remake : AreRowsRead → AreRowsReadBack → (rows : List (List (List ℕ))) (p : ℕ) (s t : BookRunState) (text : List ℕ) → AreOpenInRange s → AreAnswered kept_answers p s rows text t → Remakes (length rows) s t text
+pub rows_remake : AreRowsRead → AreRowsReadBack → (rows : List (List (List ℕ))) (p : ℕ) (s t : BookRunState) (text : List ℕ) → AreOpenInRange s → AreAnswered kept_answers p s rows text t → Remakes (length rows) s t text
 unfolding AreAnswered
 rows_remake read laws [] p s t text range a = no_rows s t text a.0 a.1
 rows_remake read laws (fields ∷ rows) p s t text range (kept, next, more, (line, answer, kept_is), whole, rest) =
@@ -513,19 +511,3 @@ rows_remake read laws (fields ∷ rows) p s t text range (kept, next, more, (lin
     let both = both_remake 1 (length rows) s next t (kept_of s fields next) more first.0 others in
     let count : 1 + length rows ≡ suc (length rows) = omega arith in
     rw (whole, kept_is) (subst (λ (n : ℕ). Remakes n s t (kept_of s fields next ++ more)) count both)
-
-pub kept_is_book : AreRowsRead → AreRowsReadBack → KeptIsTheBook
-kept_is_book read laws rows text t a =
-    let all = rows_remake read laws rows 1 book_start t text tt a in
-    let run = all.runs 0 in
-    let cut : rows_of text ≡ all.records = ap rows_of all.is ∙ kept_cut all.records all.plain in
-    record {
-      few = rw cut (omega (arith, all.few));
-      lines = run.1;
-      after = bare t run.0;
-      answered = rw cut (run.2 1);
-      book = refl;
-      batches = refl;
-      changes = refl;
-      refused = refl;
-    }

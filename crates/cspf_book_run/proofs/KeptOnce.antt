@@ -9,7 +9,6 @@ use Rattle.cspf_rows.specs.Steps.{step_of}
 use Rattle.cspf_rows.specs.declared.step.Step.{Step}
 use Rattle.cspf_rows.specs.declared.step.Step.TheVariants as step
 use Rattle.cspf_stream.specs.RowAnswers.{AreAnswered}
-use Rattle.cspf_stream.specs.declared.batch_refusal.BatchRefusal.TheVariants as refusal
 use Rattle.cspf_book_run.specs.declared.book_row.BookRow.{BookRow}
 use Rattle.cspf_book_run.specs.declared.book_row.BookRow.TheVariants as book_row
 use Rattle.cspf_book_run.specs.declared.book_row_error.BookRowError.{BookRowError}

@@ -16,6 +16,7 @@ pub mod KeptTexts
 pub mod HeldRows
 pub mod FigureTexts
 pub mod KeptBook
+pub mod KeptBehind
 pub mod Compacts
 pub mod SettledParts
 pub mod CompactRuns

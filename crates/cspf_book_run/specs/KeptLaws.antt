@@ -5,28 +5,42 @@ use Rattle.std.specs.Prelude.{◌≡◌, ◌<◌, ◌≤◌, ◌+◌, ◌⊎◌,
 use Rattle.cspf_model.specs.declared.link.Link.{Link}
 use Rattle.cspf_rows.specs.Records.{rows_of}
 use Rattle.cspf_stream.specs.RowAnswers.{AreAnswered}
-use Rattle.cspf_book_run.specs.BookScript.{BookRunState, AreBookRowsAnswered, book_answers}
+use Rattle.cspf_book_run.specs.BookScript.{BookRunState, AreBookRowsAnswered, book_answers, going_on}
+use Rattle.cspf_book_run.specs.Compacts.{AreAllTaken}
 use Rattle.cspf_book_run.specs.BookScriptLaws.{IsSaidOver}
 use Rattle.cspf_book_run.specs.Kept.{AreBookRowsKept, kept_answers, kept_of}
 use Rattle.cspf_book_run.specs.KeptRuns.{KeptRunState, AreKeptRowsAnswered, IsRowCutOff, kept_run_answers, stopped_answers}
 
--- The text has at most `most` rows. A run over these rows ends with the book of the state `t`: the
--- same base, version and placements. The run refuses no row, and at its end no changes are open.
-pub record RemakesBook (text : List ℕ) (most : ℕ) (t : BookRunState) : Type 0 where
+-- The text has at most `most` rows. A run over these earlier rows, and then over the rows of the
+-- text, ends with the book of the state `t`: the same base, version and placements. The run refuses
+-- no row, and at its end no changes are open.
+pub record RemakesBehind (earlier : List (List (List ℕ))) (text : List ℕ) (most : ℕ) (t : BookRunState) : Type 0 where
   pub few : length (rows_of text) ≤ most
   pub lines : List ℕ
   pub after : BookRunState
-  pub answered : AreBookRowsAnswered (rows_of text) lines after
+  pub answered : AreBookRowsAnswered (earlier ++ rows_of text) lines after
   pub book : after.book ≡ t.book
   pub batches : after.batches ≡ t.batches
   pub changes : after.changes ≡ []
   pub refused : after.refused ≡ 0
+
+-- The same of a text with no earlier rows.
+abbrev pub RemakesBook : List ℕ → ℕ → BookRunState → Type 0
+RemakesBook text most t = RemakesBehind [] text most t
 
 -- Let a run answer some rows, and let `text` go to `keep`, the writer of accepted rows. Then a run
 -- over this text ends with the same book. The text has at most as many rows as were answered.
 abbrev pub KeptIsTheBook : Type 0
 KeptIsTheBook =
     (rows : List (List (List ℕ))) (text : List ℕ) (t : BookRunState) → AreBookRowsKept rows text t → RemakesBook text (length rows) t
+
+-- Let a run go on with the book of earlier rows, of which none was refused and whose changes all
+-- have their end row. Let it answer some rows, and let `text` go to `keep`. Then a run over the
+-- earlier rows and this text ends with the same book.
+abbrev pub KeptBehindIsTheBook : Type 0
+KeptBehindIsTheBook =
+    (earlier rows : List (List (List ℕ))) (begun : BookRunState) (skipped : ℕ) (text : List ℕ) (t : BookRunState) → AreAllTaken earlier begun → begun.changes ≡ []
+    → AreAnswered kept_answers 1 (going_on begun skipped) rows text t → RemakesBehind earlier text (length rows) t
 
 -- No write to `keep` has failed, and no write fails at these rows. The rows are answered as a book
 -- answers them, and exactly the texts of the accepted rows are written.

@@ -3,7 +3,7 @@
 ghost use Rattle.cspf_book_run.specs.BookScript.{book_start};
 ghost use Rattle.cspf_book_run.specs.BookScriptLaws.{BooksHaveOneReply, IsBookCovered, IsBookInRange, RowsCoverSince, BaseLinesAreExact, OnlyChangersSayOver, RowsKeepRange};
 ghost use Rattle.cspf_book_run.specs.Compacts.{CompactsMakeBooks};
-ghost use Rattle.cspf_book_run.specs.KeptLaws.{KeptIsTheBook, KeptRunIsTheBook, RunsStopOnce};
+ghost use Rattle.cspf_book_run.specs.KeptLaws.{KeptBehindIsTheBook, KeptIsTheBook, KeptRunIsTheBook, RunsStopOnce};
 ghost use Rattle.cspf_book_run.specs.WrongRuns.{WeakerLawsFollow, ExcuseEndsWithCover, OtherLinkIsNoExcuse, OtherPriorityIsNoExcuse, UntrueOverIsRefused};
 
 use crate::held_row::held_rows_are_read_back;
@@ -84,8 +84,10 @@ pub fn runs_stop_once()
 /// these texts ends with the same base, version and placements as the run over the rows. The run
 /// over the texts refuses no row, and at its end no changes are open. The texts have at most as
 /// many rows as were answered. If a write to `keep` has failed, this is true of what was written to
-/// it before the row at which it failed.
+/// it before the row at which it failed. The same is true of a run that goes on with the book of
+/// earlier rows: a run over the earlier rows and the texts ends with its book.
 pub fn kept_is_the_book()
+    ensures behind { KeptBehindIsTheBook }
     ensures whole { KeptIsTheBook }
     ensures run { KeptRunIsTheBook }
 {
