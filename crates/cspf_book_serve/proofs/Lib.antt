@@ -2,4 +2,7 @@
 pub mod BeginLines
 pub mod BookUpdatesRun
 pub mod PublishedBooks
+pub mod SameBooks
+pub mod ServedCovers
+pub mod ServedKept
 pub mod ShownSteps

@@ -12,8 +12,6 @@ use Rattle.cspf_rows.specs.declared.step.Step.{Step}
 use Rattle.cspf_rows.specs.declared.step.Step.TheVariants as step
 use Rattle.cspf_stream.specs.RowAnswers.{AreAnswered, AreAllAnswered}
 use Rattle.cspf_stream.specs.StreamStops.{HasStopped, IsStreamStopped, NeverFails, StopsInRow, StopsBetween}
-use Rattle.cspf_stream.specs.declared.batch_refusal.BatchRefusal.{BatchRefusal}
-use Rattle.cspf_stream.specs.declared.batch_refusal.BatchRefusal.TheVariants as refusal
 use Rattle.cspf_stream.specs.declared.error.StreamError.{StreamError}
 use Rattle.cspf_stream.specs.declared.error.StreamError.TheVariants as error
 use Rattle.cspf_stream.specs.declared.error.StreamStop.{StreamStop}
@@ -26,7 +24,7 @@ use Rattle.cspf_book.specs.LinkFigures.{figures_at}
 use Rattle.cspf_book.specs.Placements.{placement_of}
 use Rattle.cspf_book_run.specs.BookRows.{book_row_of}
 use Rattle.cspf_book_run.specs.BookScript.{BookRunState, name_of, IsBookStepAnswered, IsBookRowTaken}
-use Rattle.cspf_book_run.specs.KeptRuns.{RowRefusals, by_stopped, by_fault, IsEndUnkept, IsRowUnkept, IsStepStopped, IsTakenStopped}
+use Rattle.cspf_book_run.specs.KeptRuns.{by_fault}
 use Rattle.cspf_book_run.specs.KeptStates.{IsAnsweredDone}
 use Rattle.cspf_book_run.specs.declared.book_row.BookRow.{BookRow}
 use Rattle.cspf_book_run.specs.declared.book_row.BookRow.TheVariants as book_row
@@ -34,6 +32,7 @@ use Rattle.cspf_book_run.specs.declared.book_row_error.BookRowError.{BookRowErro
 use Rattle.cspf_book_run.specs.declared.write_fault.WriteFault.{WriteFault}
 use Rattle.cspf_book_run.specs.declared.write_fault.WriteFault.TheVariants as fault
 use Rattle.cspf_book_run.proofs.Looks.{shown_looks, left_looks, look_same}
+use Rattle.cspf_book_serve.proofs.SameBooks.{HasSameBook, same_from, unkept_has_same, stopped_has_same}
 use Rattle.cspf_book_serve.specs.ShownTexts.{ShownState, shown_texts, as_next, IsUnshown}
 use Rattle.cspf_book_serve.specs.ServedBooks.{ServedBookState, served_book_answers, served_book_fails, IsRowUnsaid, IsBegunBy, first_served, ShowsBook, ArePublishedBooks, IsServedBookRun, RowsShowBooks}
 
@@ -62,43 +61,6 @@ skipped_taken s (book_row.Show id) line t a = look_same (λ (x : BookRunState). 
 skipped_taken s (book_row.Left from local) line t a =
     look_same (λ (x : BookRunState). x.skipped) s t refl (left_looks s t (from, local) (figures_at s.book.base s.book.placements (from, local)) line a)
 
--- The book is unchanged, and so is how many of its versions aren't counted.
-abbrev HasSameBook : BookRunState → BookRunState → Type 0
-HasSameBook s t = (t.skipped ≡ s.skipped) × (t.book ≡ s.book)
-
-same_from : (s t u : BookRunState) → t ≡ u → u.skipped ≡ s.skipped → u.book ≡ s.book → HasSameBook s t
-same_from s t u is skipped book = (ap (λ (x : BookRunState). x.skipped) is ∙ skipped, ap (λ (x : BookRunState). x.book) is ∙ book)
-
-end_has_same : (why : BatchRefusal) (s t : BookRunState) (asked : Step) (line : List ℕ) → IsEndUnkept why s asked line t → HasSameBook s t
-end_has_same why s t (step.End number count) line (said, is) = same_from s t _ is refl refl
-end_has_same why s t other line a = absurd a
-
-unkept_has_same : (why : RowRefusals) (s t : BookRunState) (row : BookRow) (line : List ℕ) → IsRowUnkept why s row line t → HasSameBook s t
-unkept_has_same why s t (book_row.Base row) line a = end_has_same why.batch s t (step_of row) line a
-unkept_has_same why s t (book_row.Place q hold) line (said, is) = same_from s t _ is refl refl
-unkept_has_same why s t (book_row.Release id) line (said, is) = same_from s t _ is refl refl
-unkept_has_same why s t (book_row.Held p) line (said, is) = same_from s t _ is refl refl
-unkept_has_same why s t (book_row.Offer q hold) line (said, is) = same_from s t _ is refl refl
-unkept_has_same why s t other line a = absurd a
-
-step_has_same : (s t : BookRunState) (asked : Step) (line : List ℕ) → IsStepStopped s asked line t → HasSameBook s t
-step_has_same s t (step.Change c) line (said, is) = same_from s t _ is refl refl
-step_has_same s t (step.End number count) line a = end_has_same refusal.Stopped s t (step.End number count) line a
-step_has_same s t (step.Ask q) line (answer, best, reply, is) = same_from s t _ is refl refl
-
-stopped_has_same : (s t : BookRunState) (row : BookRow) (line : List ℕ) → IsTakenStopped s row line t → HasSameBook s t
-stopped_has_same s t (book_row.Base row) line a = step_has_same s t (step_of row) line a
-stopped_has_same s t (book_row.Show id) line a =
-    let look = shown_looks s t id (placement_of id s.book.placements) line a in
-    (look_same (λ (x : BookRunState). x.skipped) s t refl look, look_same (λ (x : BookRunState). x.book) s t refl look)
-stopped_has_same s t (book_row.Left from local) line a =
-    let look = left_looks s t (from, local) (figures_at s.book.base s.book.placements (from, local)) line a in
-    (look_same (λ (x : BookRunState). x.skipped) s t refl look, look_same (λ (x : BookRunState). x.book) s t refl look)
-stopped_has_same s t (book_row.Place q hold) line a = unkept_has_same by_stopped s t (book_row.Place q hold) line a
-stopped_has_same s t (book_row.Release id) line a = unkept_has_same by_stopped s t (book_row.Release id) line a
-stopped_has_same s t (book_row.Held p) line a = unkept_has_same by_stopped s t (book_row.Held p) line a
-stopped_has_same s t (book_row.Offer q hold) line a = unkept_has_same by_stopped s t (book_row.Offer q hold) line a
-
 -- ---- one row
 
 -- Neither the book nor the list of published batches changes.
@@ -119,11 +81,11 @@ unshown_publishes_none s text b (fault.Keep written) t (few, is) = ap (λ (x : S
 unshown_publishes_none s text b (fault.Journal written) t (few, is) = ap (λ (x : ShownState). x.published) is
 
 publishes_none : (s t : ServedBookState) → HasSameBook s.run t.run → t.shown.published ≡ s.shown.published → PublishesAtMostOne s t
-publishes_none s t same none = record { skipped = same.0; published = inl (same.1, none) }
+publishes_none s t same none = record { skipped = same.skipped; published = inl (same.book, none) }
 
 row_publishes : (place : ℕ) (s t : ServedBookState) (fields : List (List ℕ)) (row : Result BookRow BookRowError) (line : List ℕ)
     → IsAnsweredDone shown_texts place s.run fields row line t.run s.shown t.shown → PublishesAtMostOne s t
-row_publishes place s t fields (Err e) line (a, same) = publishes_none s t (same_from s.run t.run _ a.1 refl refl) (ap (λ (x : ShownState). x.published) same)
+row_publishes place s t fields (Err e) line (a, same) = publishes_none s t (same_from s.run t.run _ a.1 refl refl refl refl) (ap (λ (x : ShownState). x.published) same)
 row_publishes place s t fields (Ok row) line (inl (going, taken, (inl kept))) =
     record { skipped = skipped_taken s.run row line t.run taken; published = inl (kept.0, ap (λ (x : ShownState). x.published) kept.1) }
 row_publishes place s t fields (Ok row) line (inl (going, taken, (inr kept))) =

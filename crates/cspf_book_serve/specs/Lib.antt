@@ -2,4 +2,5 @@
 pub mod ShownTexts
 pub mod ShownStates
 pub mod ServedBooks
+pub mod ServedBookLaws
 pub mod BookUpdates

@@ -1,6 +1,6 @@
 //! The run of a server with a book.
 
-ghost use Rattle.std.specs.Prelude.{◌≡◌, ◌≤◌, ◌<◌, [], false, List, Option, ℕ, IfErr, IfOk, OnOk, vec_len};
+ghost use Rattle.std.specs.Prelude.{◌≡◌, ◌≤◌, ◌<◌, ◌⊎◌, [], false, List, Option, ℕ, IfErr, IfOk, OnOk, vec_len};
 ghost use Rattle.std.specs.Io.KnownBytes.{Appends};
 ghost use Rattle.std.specs.Option.{option_map};
 ghost use Rattle.cspf_book_run.specs.Compacts.{IsBookRead};
@@ -45,7 +45,8 @@ pub type ServedBook<W, J, K, Q, V> = Result<
 /// and the batch is published. Then the lines are written. Lines name the book's version by how many
 /// batches are published. The run ends when the updates and all clients have ended: `IsServedBook`.
 ///
-/// If an error is returned, no row of the updates and of the clients was read.
+/// If an error is returned, no row of the updates and of the clients was read. If it is about the rows
+/// of the beginning, nothing was written.
 pub fn run_serve_book<
     B: Read + Drop,
     R: Read + Drop,
@@ -72,6 +73,7 @@ pub fn run_serve_book<
         (R.remaining updates) W.contents K.contents J.contents Q.remaining V.contents V.reopens
         said keep journal clients.items ran.0 ran.1) }
     ensures refused { IfErr result (λ e. IsBeginFault (B.remaining begin) e.0) }
+    ensures unwritten { IfErr result (λ e. IsOtherFault e.0 ⊎ ((e.1 ≡ said) × (e.2 ≡ journal))) }
     ensures back { IfErr result (λ e. (e.3 ≡ keep) × (e.4 ≡ clients)) }
 {
     let book = match read_book(alloc, begin) {

@@ -20,4 +20,7 @@ mod shown;
 pub use book_serve::{ServedBook, run_serve_book};
 pub use cspf_book_run::CompactStop;
 pub use error::ServedBookError;
-pub use laws::published_books;
+pub use laws::{
+    published_books, published_books_are_covered, served_book_replies_are_fresh,
+    served_kept_is_the_book,
+};

@@ -44,7 +44,8 @@ use Rattle.cspf_client.specs.declared.client.ServedClient.{ServedClient}
 use Rattle.cspf_client.specs.declared.error.ClientError.{ClientError}
 use Rattle.cspf_client.proofs.Forward.{forward, forward_read, FailsForward, never_forward, unanswered_forward, forward_row_stopped}
 use Rattle.cspf_client.proofs.Prefixes.{AreFirstSteps-trans, IsPrefix-trans}
-use Rattle.cspf_serve.specs.ServedRun.{IsServedClient, IsServedSession, IsServedSeat}
+use Rattle.cspf_serve.specs.NumberedPairs.{AreNumberedPairs}
+use Rattle.cspf_serve.specs.ServedRun.{AreServedFrom, IsServedClient, IsServedSession, IsServedSeat}
 use Rattle.cspf_serve.specs.ServedLaws.{SessionSteps, IsReadBefore, IsFreshLine, IsAnsweredFresh, HasFreshLines, HasFreshSessions, ServedRepliesAreFresh, SeatsHaveOneSession, steps_of_session, NoReplyIsBehind, read_behind_a_batch}
 use Rattle.cspf_serve.proofs.Pairs.{numbered_weaker}
 
@@ -222,16 +223,23 @@ session_lines {Q} {V} kinds bytes contents known all number order s is =
     subst (λ (w : V). Lines kinds all session number order (option_map rows_of (bytes s.streams.requests)) (contents w) (contents s.after.replies)) is.session.empty
     (subst (λ (r : Option Q). Lines kinds all session number order (unread_rows bytes r) (contents s.before.replies) (contents s.after.replies)) is.session.requests lines)
 
-pub fresh_runs : (W J : Type 0) {Q V : Type 0} (reopens : ReopensOf Q V) → ServedRepliesAreFresh W J reopens
-fresh_runs W J reopens kinds updates said recorded bytes contents writer journal clients served run =
-    numbered_weaker (IsServedSeat kinds bytes contents reopens run.state.run.accepted served.steps) (HasFreshSessions kinds bytes contents reopens run.state.run.accepted served.steps)
+-- The lines of each session of each client are fresh.
+pub fresh_seats : {Q V : Type 0} (kinds : QuestionKinds) (bytes : Q → Option (List ℕ)) (contents : V → Option (List ℕ)) (reopens : ReopensOf Q V) (published : List NumberedChanges) (all : KnownSteps) → AreOrderedFrom 0 0 all.steps
+    → (clients : List (Client Q V)) (served : List (ServedClient V)) → AreServedFrom kinds bytes contents reopens published all 1 clients served
+    → AreNumberedPairs (HasFreshSessions kinds bytes contents reopens published all) 1 clients served
+fresh_seats kinds bytes contents reopens published all order clients served are =
+    numbered_weaker (IsServedSeat kinds bytes contents reopens published all) (HasFreshSessions kinds bytes contents reopens published all)
     (λ n c s is. record {
       seat = is;
       fresh =
-          All-weaker (IsServedSession kinds bytes contents s.known served.steps n) (HasFreshLines kinds bytes contents served.steps.steps n)
-          (session_lines kinds bytes contents s.known served.steps n run.steps_of_run.journal.order) (is.last ∷ is.earlier) is.each;
+          All-weaker (IsServedSession kinds bytes contents s.known all n) (HasFreshLines kinds bytes contents all.steps n)
+          (session_lines kinds bytes contents s.known all n order) (is.last ∷ is.earlier) is.each;
     })
-    1 clients served.clients.items run.clients_served
+    1 clients served are
+
+pub fresh_runs : (W J : Type 0) {Q V : Type 0} (reopens : ReopensOf Q V) → ServedRepliesAreFresh W J reopens
+fresh_runs W J reopens kinds updates said recorded bytes contents writer journal clients served run =
+    fresh_seats kinds bytes contents reopens run.state.run.accepted served.steps run.steps_of_run.journal.order clients served.clients.items run.clients_served
 
 -- what the only session of a client is, if no session follows another
 only : {Q V : Type 0} (reopens : ReopensOf Q V) → ((writer : V) (streams : Client Q V) → ¬ reopens writer (Ok streams)) → (first : ServingState Q V) (last : ClientSession Q V) (earlier : List (ClientSession Q V))
