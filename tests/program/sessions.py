@@ -13,6 +13,8 @@ import sys
 import threading
 import time
 
+from program.known_books import BASE, FREE, held_row, offer, place
+from program.known_served_books import put
 from program.serving import AT, MOMENT, PATIENCE, Lines, circuit_at, reply_at, wait_for
 
 ASK, ROW = "ask,{},1.1.1.1,2.2.2.2,0,5,0x0,0x0,0x0,\n", "row {} refused: {}\n"
@@ -21,6 +23,20 @@ TURNS, CLIENTS = 30, 4  # sessions of each client beside batches, and these clie
 ENDED = 0.5  # seconds in which a run has seen the end of its updates
 SMALL = 600  # bytes of a file at most, fewer than the figures of one client take
 KEPT = 300  # sessions after which memory is compared
+# Rows of a book whose beginning is at version 1, how their lines begin, and the version that is new in the last one, if it is
+BOOK_ROWS = [
+    ("ask,1,1.1.1.1,2.2.2.2,0,5,0x0,0x0,0x0,\n", ["ask 1 v1"], 1),
+    ("show,7\n", ["show 7 refused: absent\n"], None),
+    (place(6), ["place 6 v2"], 2),
+    (place(7, bandwidth=5000), ["place 7 v2 none\n"], None),
+    (offer(7), ["offer 7 v2"], None),
+    ("release,8\n", ["release 8 refused: absent\n"], None),
+    (held_row(9, bandwidth=2000), ["over 1.1.1.1,10.0.12.1 7\n", "held 9 v3\n"], 3),
+    ("release,9\n", ["released 9 v4\n"], 4),
+    ("drop,1.1.1.1,10.0.12.1\nend,2,2\n", ["batch 2 refused: counted 1\n"], None),
+    ("drop,1.1.1.1,10.0.12.1\nend,2,1\n", ["lost 5\n", "lost 6\n", "base 2 v5\n"], 5),
+    (put(FREE) + "end,3,1\n", ["base 3 v6\n"], 6),
+]
 # opens two pipes, and says its process and their ends
 HOLDER = """
 import os, sys
@@ -124,6 +140,7 @@ def sessions(program, checks, room):
 
     ends(program, checks, at("ends"))
     counted(program, checks, at("counted"))
+    of_books(program, checks, at("of_books"))
     beside(program, checks, at("beside"))
     memory(program, checks, at("memory"))
     other_names(program, checks, at("names"))
@@ -206,6 +223,30 @@ def counted(program, checks, room):
         checks.same("the figures after a batch", (run.read()[0]["version"], run.read()[0]["figures"]), (3, before + 1))
         let_go(run)
         checks.same("the end beside figures", run.child.wait(PATIENCE), 2)
+
+
+def of_books(program, checks, room):
+    """With a book the figures are written once a line has a new version, whatever row has it."""
+    begin, keep = f"{room}.begin", f"{room}.keep"
+    with open(begin, "w", encoding="ascii") as file:
+        file.write(BASE + place(5))
+    with Sessions(program, room, 1, "--book", "--keep", keep, "--begin", begin) as run:
+        wait_for(lambda: os.path.exists(run.figures) and os.stat(run.figures).st_size > 0)
+        ends_of, before = run.first()[0], run.read()[0]["figures"]
+        checks.same("the version in the figures of a beginning", run.read()[0]["version"], 0)
+        for row, lines, version in BOOK_ROWS:
+            run.child.stdin.write(row.encode())
+            checks.same(f"the lines of {row}", [run.said.next().split(" route")[0] for _ in lines], lines)
+            before += version is not None
+            wait_for(lambda: run.read()[0]["figures"] >= before)
+            head = run.read()[0]
+            newest = head["version"] if version is None else version
+            checks.same(f"the figures after {row}", (head["figures"], head["version"]), (before, newest))
+        checks.same("a session beside a book", spoken(ends_of, ASK.format(9)).split(" route")[0], "ask 9 v6")
+        wait_for(lambda: run.read()[1][0]["sessions"] == 1)
+        checks.same("its figures", [run.read()[1][0][name] for name in ("rows", "route", "version")], [1, 1, 6])
+        let_go(run)
+        checks.same("the end of a book beside figures", run.child.wait(PATIENCE), 2)
 
 
 def let_go(run):

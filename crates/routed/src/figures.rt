@@ -84,9 +84,25 @@ pub(crate) fn line_of(line: &[u8]) -> (CountedLine, u64) {
     (kind, number_at(version.get(1..).unwrap_or(&[])))
 }
 
-/// The version of a line `version V`, or `None` if the line is another line.
-pub(crate) fn version_of(line: &[u8]) -> Option<u64> {
-    let version = line.strip_prefix(b"version ".as_slice())?;
+/// The last line of some lines. Each of them ends with a line feed.
+fn last_of(lines: &[u8]) -> &[u8] {
+    let mut start = 0;
+    for index in 1..lines.len() {
+        if lines[index - 1] == b'\n' {
+            start = index;
+        }
+    }
+    lines.get(start..).unwrap_or(&[])
+}
+
+/// The version in the lines that answer an update. It is that of a line `version V`, or the `vV` of the
+/// last line, as in `ask ID vV ..` or `base N vV`. `None` if there is no version.
+pub(crate) fn version_of(lines: &[u8]) -> Option<u64> {
+    let line = last_of(lines);
+    if let Some(version) = line.strip_prefix(b"version ".as_slice()) {
+        return Some(number_at(version));
+    }
+    let version = after_space(after_space(line)).strip_prefix(b"v".as_slice())?;
     Some(number_at(version))
 }
 
@@ -320,10 +336,12 @@ impl Figures {
         self.write(handle);
     }
 
-    /// Notes the version that was published last, and writes the file.
+    /// Notes the version that was published last. Writes the file if this is a new version.
     pub(crate) fn publish(&self, handle: &impl Wait, version: u64) {
-        self.version.store(version, Ordering::Relaxed);
-        self.write(handle);
+        if version > self.version.load(Ordering::Relaxed) {
+            self.version.store(version, Ordering::Relaxed);
+            self.write(handle);
+        }
     }
 
     /// Writes the file. A failure is noted for `fault`, and the run goes on.

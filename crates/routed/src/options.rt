@@ -209,10 +209,7 @@ impl CommandOption {
                 .action(ArgAction::SetTrue)
                 .requires_arg(COMPACT)?
                 .conflicts_with(KEEP),
-            CommandOption::Book => arg
-                .action(ArgAction::SetTrue)
-                .requires_arg(KEEP)?
-                .conflicts_with(FIGURES),
+            CommandOption::Book => Ok(arg.action(ArgAction::SetTrue).requires_arg(KEEP)?),
             CommandOption::Begin | CommandOption::KeepServed => {
                 Ok(arg.value_name("FILE").requires_arg(BOOK)?)
             }

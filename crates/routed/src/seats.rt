@@ -69,7 +69,7 @@ impl<R: Read> Read for UpdatesRows<'_, R> {
     }
 }
 
-/// A writer of the lines that answer updates. After each line `version V` it writes the figures.
+/// A writer of the lines that answer updates. After lines with a new version it writes the figures.
 #[derive(Drop)]
 pub struct Saying<'a, W, T> {
     said: W,

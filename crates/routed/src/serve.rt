@@ -88,7 +88,7 @@ of them is neither a pipe nor a device. A client that waits for the other end of
 input ends waits on: the run ends only after a program has opened both pipes and ended its rows.
 
 --figures FILE makes a file with a line for each client, its seat, and writes it again over the same
-bytes after each batch and each session:
+bytes after each published batch and each session:
   figures N version V seats K
   seat S sessions E open 0 rows R route A none B unknown-from C unknown-to D refused F version V
   end N
@@ -186,16 +186,31 @@ fn serve<T: Threads + Wait + Sync, K: Kinds + Send>(
         figures.write(handle);
     }
     let clients = open_clients(call, words, &seats)?;
-    if call.has(BOOK) {
-        return serve_book::<T, K>(call, &seats, clients, words);
-    }
-    let mut journal = created(call, JOURNAL)?;
-    let ran = run::<T, K>(call, &seats, &mut journal, clients, words);
+    let ran = if call.has(BOOK) {
+        serve_book::<T, K>(call, &seats, clients, words)
+    } else {
+        serve_batches::<T, K>(call, &seats, clients, words)
+    };
     if let Some(figures) = &seats.figures {
         if let Some(fault) = figures.fault(handle) {
             explain_figures(call, &fault);
         }
     }
+    ran
+}
+
+/// Publishes the batches of standard input, and answers the clients meanwhile. The new journal is made
+/// last.
+fn serve_batches<'a, T: Threads + Wait + Sync, K: Kinds + Send>(
+    call: &Call<'_, '_>,
+    seats: &'a RunSeats<'a, T>,
+    clients: Vec<OpenClient<'a, T>>,
+    words: &[&str],
+) -> Ran
+    requires { (0 < vec_len clients) × (vec_len clients ≤ MOST_ASKERS) }
+{
+    let mut journal = created(call, JOURNAL)?;
+    let ran = run::<T, K>(call, seats, &mut journal, clients, words);
     flushed(&mut journal, ran)
 }
 

@@ -7,7 +7,7 @@ use crate::client_files::OpenClient;
 use crate::devices::{INPUT, NewFile, OUTPUT, created, flushed, opened};
 use crate::noted::{Fault, Noted};
 use crate::options::{BEGIN, Call, JOURNAL, KEEP};
-use crate::seats::{RunSeats, UpdatesRows};
+use crate::seats::{RunSeats, Saying, UpdatesRows};
 use crate::serve::explain_ends;
 use crate::stopped::{Ran, Stopped};
 use cspf_book_serve::{ServedBookError, run_serve_book};
@@ -81,7 +81,7 @@ fn answer<'a, B: Read, T: Threads + Wait + Sync, K: Kinds + Send>(
         rt.alloc(),
         &mut *begin,
         UpdatesRows::new(&mut updates, &seats.has_ended),
-        &mut said,
+        Saying::new(&mut said, seats),
         keep,
         &mut *journal,
         clients,
