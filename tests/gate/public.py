@@ -149,20 +149,38 @@ def ending_of(item, more):
     return "::" + name.partition("=>")[2] if "=>" in name else name[len(item.contract.name):]
 
 
-def definitions(crate, path, text):
-    """The definitions of one file of specs/; those that are not public stand in the texts of those that name them."""
-    module = path.partition("/specs/")[2][:-len(".antt")].replace("/", ".")
-    words, found, current = {}, [], None
-    lines = re.sub(r"(?m)(^|[ \t])--(?=\s|$).*$", "", text).split("\n")
+def flat(lines):
+    """The lines with their numbers, and the parameters that they have: those of the modules without a name in which they stand. Such lines
+    are moved to the left by the depth of these modules."""
+    heads, begun = [], None
     for number, line in enumerate(lines, 1):
         if not line.strip():
             continue
+        while heads and not line.startswith("  " * len(heads)):
+            heads.pop()
+        line = line[2 * len(heads):]
+        if begun is not None or line.startswith("module _ "):
+            begun = f"{begun or ''} {line.strip()}".strip()
+            if begun.endswith(" where"):
+                heads.append(begun[len("module _ "):-len(" where")])
+                begun = None
+        else:
+            yield number, line, heads[:]
+
+
+def definitions(crate, path, text):
+    """The definitions of one file of specs/; those that are not public stand in the texts of those that name them. One in a module without
+    a name has the module's parameters at the front of its text."""
+    module = path.partition("/specs/")[2][:-len(".antt")].replace("/", ".")
+    words, found, current = {}, [], None
+    lines = re.sub(r"(?m)(^|[ \t])--(?=\s|$).*$", "", text).split("\n")
+    for number, line, parameters in flat(lines):
         if line[0] in " \t}":
             if current is not None:
                 current[1].append(line)
             continue
         if re.match(r"(pub\s+)?(use|open)\s", line):
-            current = (number, [line], "use", True)
+            current = (number, [line], "use", True, parameters)
             found.append(current)
             continue
         if re.match(r"(pub\s+)?mod\s", line):
@@ -172,16 +190,16 @@ def definitions(crate, path, text):
         first = line.split()[0]
         name = re.sub(r"^(infix[lr]?)$", first + " " + line.split()[-1], head[2]) if first.startswith("infix") else head[2]
         if current is None or current[2] != name or head[1]:
-            current = (number, [], name, "pub" in head[1].split() or first.startswith("infix"))
+            current = (number, [], name, "pub" in head[1].split() or first.startswith("infix"), parameters)
             found.append(current)
         current[1].append(line)
     made, texts = [], {}
-    for number, piece, name, is_public in found:
+    for number, piece, name, is_public, parameters in found:
         whole = re.sub(r"\s+", " ", " ".join(piece)).strip()
         if name == "use":
             words.update(imported(re.sub(r"^(pub )?(use|open) ", "", whole)))
         else:
-            made.append((number, name, is_public, "\n".join(re.sub(r"\s+", " ", it) for it in joined(piece)), len(piece)))
+            made.append((number, name, is_public, "\n".join(re.sub(r"\s+", " ", it) for it in [*parameters, *joined(piece)]), len(piece)))
     sizes = {}
     for _, name, is_public, whole, size in made:
         if not is_public:
