@@ -8,7 +8,7 @@ import re
 import secrets
 import time
 from bisect import bisect_left
-from collections.abc import Callable
+from collections.abc import Callable, Sequence
 from time import monotonic
 
 from ..net.log import Log
@@ -17,18 +17,19 @@ from .tallies import Counts, Tallies
 
 VERSIONS = JOURNAL_ROWS = 1_000_000  # the most that a run publishes, and that the commands read of a journal
 AT_ONCE = 1 << 18  # bytes of the journal that are read at once
+MOST_ROUTES = 4096  # held rows of a connection that are passed on and have no line; a malformed one may be among them for long
 ROW = re.compile(rb"[^\r\n]+")  # a carriage return ends one, too
 END = re.compile(rb"(?m)^end,.*\n")
 OUTCOMES = [(b" route cost=", "route"), (b" none\n", "none"), (b" unknown-from\n", "unknown-from"), (b" unknown-to\n", "unknown-to")]
 OTHER = re.compile(rb"(?m)^(?:(version) (\d+)|((row|batch) \d+ refused: ([^ \n]+)[^\n]*))$")
-CUT_OFF = {"line": "refused, for a line that isn't passed on", "idle": "idle for too long"}
+CUT_OFF = {"line": "refused, for a line that isn't passed on", "idle": "idle for too long", "unread": "it doesn't read its lines"}
 PLACES = ("ask", "direct", "updates", "watch", "show", "metrics")
 
 
 class Account:
     """Counts what the connections bring and read."""
 
-    def __init__(self, log: Log, journal: str, number: int | None = None) -> None:
+    def __init__(self, log: Log, journal: str, number: int | None = None, places: Sequence[str] = PLACES) -> None:
         self.log, self.journal, self.version, self.number = log, Journal(journal), 0, number
         self.tallies, self.counts = Tallies(), Counts()  # of clients, and of the updates
         self.run = str(number) if number else secrets.token_hex(8)  # the name of this run of the server
@@ -59,13 +60,17 @@ class Account:
         figures.counter("routed_refused_rows_total", "Refused rows whose lines are passed on, by the first word of the reason.", "word")
         figures.counter("routed_refused_batches_total", "Batches that were refused, by the first word of the reason.", "word")
         figures.gauge("routed_connections", "Connections that are open, by their place.",
-                      lambda: {it: self.open[it] for it in PLACES}, "place")
-        figures.counter("routed_connections_total", "Connections that were taken, by their place.", "place", PLACES)
-        figures.counter("routed_busy_total", "Connections that were told busy, by their place.", "place", PLACES)
+                      lambda: {it: self.open[it] for it in places}, "place")
+        figures.counter("routed_connections_total", "Connections that were taken, by their place.", "place", places)
+        figures.counter("routed_busy_total", "Connections that were told busy, by their place.", "place", places)
         figures.counter("routed_cut_off_total", "Connections that were ended: for a line that isn't passed on, or as idle.", "reason",
-                        CUT_OFF)
+                        ("line", "idle"))
         figures.counter("routed_exceptions_total", "Connections that were ended by an exception in the code of this tool.")
         figures.total("routed_log_dropped_total", "Lines of the log that were dropped.", lambda: log.dropped)
+
+    def read_on(self) -> bool:
+        """Reads more of the files that figures are of. Whether all of them are read."""
+        return self.journal.read_on()
 
     def published(self, version: int) -> None:
         """This version is the newest one."""
@@ -169,12 +174,13 @@ class Account:
 
 class Use:
     """A stream's use by one connection: what was passed on, and when the rows were that have no lines yet. Its lines are counted in
-    `counts`, too, which other connections may share."""
+    `counts`, too, which other connections may share. `routes` has the held rows whose lines haven't come, and the links of each."""
 
     def __init__(self, account: Account, place: str, named: str, counts: Counts) -> None:
         self.account, self.place, self.counts, self.begun = account, place, counts, time.monotonic()
         self.rows, self.lines = 0, 0
         self.sent: collections.deque[tuple[float, int]] = collections.deque()
+        self.routes: collections.deque[tuple[int, int]] = collections.deque(maxlen=MOST_ROUTES)
         self.number = account.begin(place, named) if named else 0
 
     def end(self) -> None:
@@ -182,10 +188,11 @@ class Use:
 
 
 class Journal:
-    """What the journal has so far. Each part of it is read once, as it grows."""
+    """What the journal has so far, or another file of rows. Each part of it is read once, as it grows. `end` matches the rows that end
+    something."""
 
-    def __init__(self, path: str) -> None:
-        self.path, self.read, self.rows = path, 0, 0
+    def __init__(self, path: str, end: re.Pattern[bytes] = END) -> None:
+        self.path, self.end, self.read, self.rows = path, end, 0, 0
         self.offsets = array.array("Q")  # bytes up to the end of each batch
 
     @property
@@ -204,7 +211,7 @@ class Journal:
         is_all = len(data) < AT_ONCE
         data = data[:data.rfind(b"\n") + 1]
         self.rows += data.count(b"\n")
-        self.offsets.extend(self.read + end.end() for end in END.finditer(data))
+        self.offsets.extend(self.read + end.end() for end in self.end.finditer(data))
         self.read += len(data)
         return is_all
 

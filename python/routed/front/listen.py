@@ -65,15 +65,19 @@ from .. import program
 from ..model.journals import Refused, texts
 from ..net.endpoints import Endpoint, say, tried
 from ..net.http import Page
-from ..net.log import LEVELS, Log
+from ..net.log import Log
 from ..net.loop import Loop, Stopped
 from ..net.notify import Supervised
 from ..net.signals import take_signals
 from ..net.stream import Stream
 from . import processes
-from .accounts import Account
+from .accounts import PLACES, Account
+from .booked import BookAccount
 from .channels import Channel
 from .direct import Directs
+from .keeping import Keeping
+from .making import Making
+from .options import idle_of, mode_of, read
 from .relays import Relays
 from .renewal import Renewal
 from .seats import Seats
@@ -82,9 +86,7 @@ from .snapshots import Snapshots
 from .updates import Updates
 from .watch import Watch
 
-IDLE = 300  # seconds, at a port
 SOON = 0.005  # seconds from one look at the seats to the next
-MOST_RUNS = 999_999  # the greatest number of a run
 
 
 class Front:
@@ -92,23 +94,27 @@ class Front:
 
     def __init__(self, options: argparse.Namespace) -> None:
         self.log = Log("listen", options.log_level)
-        self.account = Account(self.log, options.journal, options.run)
+        booked = BookAccount(self.log, options.journal, options.run, options.begin, options.keep) \
+            if getattr(options, "placements", None) else None
+        self.account = booked or Account(self.log, options.journal, options.run)
         self.loop, self.options, self.is_stopped = Loop(self.account.failed), options, False
-        self.snapshots = Snapshots(self.loop, options.program, self.account)
         self.listeners: dict[str, socket.socket] = {}
         self.server: subprocess.Popen[bytes] | None = None
         self.status: int | None = None  # of the server, once it has ended
         self.is_renewed = False  # it ends for a run that can be written
         self.seats = Seats(self.loop, options.clients, options.each, self.account)
         (rows, rows_in), (lines_out, lines) = os.pipe(), os.pipe()
-        self.updates = Updates(self.loop, Stream(self.loop, lines_out, rows_in), self.account, self.snapshots)
+        stream = Stream(self.loop, lines_out, rows_in)
+        self.book = Keeping(self.loop, stream, booked, options) if booked else None
+        self.snapshots: Making = self.book.texts if self.book else Snapshots(self.loop, options.program, self.account)
+        self.updates = Updates(self.loop, self.book.updates if self.book else stream, self.account, self.snapshots)
         self.theirs = rows, lines  # the server's ends of the pipes of updates
         self.relays: Relays | None = None
         program.build_info(self.account.figures, options.program)
         processes.add(self.account.figures, self.processes)
         self.supervised = Supervised(self.loop, self.told)
         if options.renew:
-            self.account.journal_failed = Renewal(self.loop, options.journal, self.renew).begin
+            self.account.journal_failed = Renewal(self.loop, [options.journal, *([options.keep] if booked else [])], self.renew).begin
         take_signals(self.loop, (signal.SIGTERM, signal.SIGINT, signal.SIGCHLD), self.signalled)
 
     def processes(self) -> dict[str, int]:
@@ -117,7 +123,8 @@ class Front:
     def told(self) -> str:
         """The status line of the unit."""
         if not self.supervised.is_ready:
-            return f"publishing the batches of {self.options.begin}" if self.options.begin else "starting"
+            what = "reading the book" if self.book else "publishing the batches"
+            return f"{what} of {self.options.begin}" if self.options.begin else "starting"
         run = "" if self.options.run is None else f"run {self.options.run}, "
         asking = self.account.open["ask"]
         return f"{run}version {self.account.version}, {asking} asking{f'; {self.account.fault}' if self.account.fault else ''}"
@@ -131,15 +138,18 @@ class Front:
 
     def begin(self) -> None:
         """Starts the server, and brings what it begins with. Rows are taken once it has answered one: all files are open then."""
-        batches = beginning(self.options.begin)
+        batches = [] if self.book else beginning(self.options.begin)
         ours = f"/proc/{os.getpid()}/fd"  # inherited, an end of a pipe would stay open in the server whatever it closes: it opens its own
         clients = pipe_of("".join(f"{ours}/{rows}={ours}/{lines}\n" for rows, lines in (seat.place for seat in self.seats.all)))
         words = [self.options.program, "serve", "--explain", "--journal", self.options.journal, "--clients-from", f"{ours}/{clients}",
-                 "--reopen", "--figures", self.account.tallies.path, *self.options.questions]
+                 "--reopen", *self.options.questions, *(self.book.words() if self.book else ["--figures", self.account.tallies.path])]
         with tried(self.options.program, program.hint(self.options.program)):
             self.server = subprocess.Popen(words, stdin=self.theirs[0], stdout=self.theirs[1], preexec_fn=outlive_limits)
         for file in self.theirs:
             os.close(file)
+        if self.book:
+            self.book.begin(lambda version: self.begun(version, version, clients))
+            return
         self.updates.to_server = "".join(batches).encode()
         self.updates.ask(lambda version: self.loop.after(0, lambda: self.begun(version, len(batches), clients)))
         self.updates.settle()
@@ -163,7 +173,7 @@ class Front:
         told = []
         for kind, listener in self.listeners.items():
             self.serve(kind, listener)
-            place = getattr(self.options, kind)
+            place: Endpoint = getattr(self.options, kind)
             if place.port == 0:
                 host, port = listener.getsockname()[:2]
                 told.append(f"{kind} {f'[{host}]' if ':' in host else host}:{port}")
@@ -174,13 +184,16 @@ class Front:
         """Takes the connections of a place."""
         if kind == "metrics":
             Page(self.loop, listener, self.account.figures.text, lambda change: self.account.change("metrics", change),
-                 self.account.journal.read_on)
+                 self.account.read_on)
         elif kind == "watch":
             Watch(self.loop, listener, self.account)
         elif kind == "show":
             Showing(self.loop, listener, self.account, self.snapshots)
         elif kind == "updates":
             self.updates.listen(self.loop, listener)
+        elif kind == "placements":
+            if self.book:
+                self.book.placing.listen(listener)
         elif kind == "direct":
             Directs(self.loop, listener, self.seats, self.account)
         else:
@@ -202,11 +215,13 @@ class Front:
         self.begin()
         while (status := self.status) is None:
             self.loop.turn()
+        if self.book:
+            self.book.read_rest()
         channels: list[Channel] = [self.updates, *(self.relays.all if self.relays else ())]
         for channel in channels:
             if channel.connection:
                 channel.loop.call(channel.read_rest)
-        if status and not self.is_stopped:
+        if status and not self.is_stopped and (not self.book or self.book.is_begun):
             what = f"ended with status {status}" if status > 0 else f"was ended by signal {-status}"
             self.log.say("error", f"{self.options.program} {what}")
         return 3 if self.is_renewed else status if status >= 0 else 128 - status
@@ -238,77 +253,14 @@ def beginning(path: str | None) -> list[str]:
         raise Stopped(f"{path}: {fault}") from None
 
 
-def idle_of(options: argparse.Namespace) -> float:
-    """Seconds after which an idle asking connection is ended, 0 for never."""
-    return options.idle if options.idle is not None else 0 if options.ask.path else IDLE
-
-
-def mode(text: str) -> int:
-    """Permissions as octal digits."""
-    value = int(text, 8)
-    if not 0 <= value <= 0o777:
-        raise ValueError
-    return value
-
-
-def run(text: str) -> int:
-    """The number of a run."""
-    value = int(text)
-    if not 0 < value <= MOST_RUNS:
-        raise ValueError
-    return value
-
-
-def seconds(text: str) -> float:
-    """A time that can be waited for."""
-    value = float(text)
-    if not 0 <= value <= 86400 * 366:
-        raise ValueError
-    return value
-
-
 def main(given: list[str] | None = None) -> int:
     """Takes the words of a command line, and answers the status."""
-    words = argparse.ArgumentParser(prog="routed-tools listen", description=__doc__, formatter_class=argparse.RawDescriptionHelpFormatter)
-    words.add_argument("--journal", required=True, metavar="FILE", help="a new file, for the batches of this run")
-    words.add_argument("--begin", metavar="FILE",
-                       help="batches that are published before any connection is taken: a snapshot of the run before")
-    words.add_argument("--run", type=run, metavar="N", help="the number of this run, which it tells")
-    words.add_argument("--renew", action="store_true", help="once the journal has failed and there is room again, end with status 3")
-    words.add_argument("--ask", required=True, type=Endpoint, metavar="PLACE", help="where clients ask")
-    words.add_argument("--updates", required=True, type=Endpoint, metavar="PLACE", help="where updates come in")
-    words.add_argument("--clients", type=int, choices=range(1, 65), default=64, metavar="N", help="how many ask at once, 1 to 64 (64)")
-    words.add_argument("--mode", type=mode, default=0o600, help="permissions of UNIX sockets, octal (600)")
-    words.add_argument("--ask-mode", type=mode, metavar="MODE", help="those of the socket where clients ask (that of --mode)")
-    words.add_argument("--updates-mode", type=mode, metavar="MODE", help="those of the socket where updates come in (that of --mode)")
-    words.add_argument("--each", type=int, choices=range(0, 65), default=0, metavar="N",
-                       help="how many asking connections one user has at once at paths, or one address at a port, 0 for any number (0)")
-    for option, word in (("--except", "except"), ("--pairs", "pair")):
-        words.add_argument(option, action="append_const", const=option, dest="questions", default=[],
-                           help=f"take `{word}` rows of those who ask")
-    words.add_argument("--direct", type=Endpoint, metavar="PLACE", help="where clients of this machine get the ends of their own pipes")
-    words.add_argument("--direct-mode", type=mode, metavar="MODE", help="that of the socket of --direct (that of --ask-mode)")
-    words.add_argument("--watch", type=Endpoint, metavar="PLACE", help="where the line of each version is read")
-    words.add_argument("--show", type=Endpoint, metavar="PLACE", help="where the line `snapshot` shows the network, and no line changes it")
-    words.add_argument("--show-mode", type=mode, metavar="MODE", help="that of the socket of --show (that of --ask-mode)")
-    words.add_argument("--metrics", type=Endpoint, metavar="PLACE", help="where figures are read, by HTTP at /metrics")
-    words.add_argument("--log-level", choices=LEVELS, default="warning", help="which lines of the log are written (warning)")
-    words.add_argument("--idle", type=seconds, metavar="SECONDS",
-                       help=f"after which an idle connection at the place of --ask is ended, 0 for never ({IDLE} at a port, never at a "
-                            "path); direct ones never are")
-    program.add_option(words)
-    options = words.parse_args(given)
-    if options.direct and not options.direct.path:
-        words.error("argument --direct: files are passed at the path of a UNIX socket alone")
-    options.program = program.find(options.program)
+    options = read(__doc__, given)
     front = Front(options)
     try:
-        modes = {"updates": options.updates_mode, "ask": options.ask_mode, "watch": options.ask_mode, "metrics": None,
-                 "direct": options.ask_mode if options.direct_mode is None else options.direct_mode,
-                 "show": options.ask_mode if options.show_mode is None else options.show_mode}
-        for kind, given in modes.items():
+        for kind in (*PLACES, "placements"):
             if place := getattr(options, kind):
-                front.listeners[kind] = place.bind(options.mode if given is None else given)
+                front.listeners[kind] = place.bind(mode_of(options, kind))
         return front.run()
     except (Stopped, OSError, MemoryError) as fault:
         front.log.say("error", str(fault) or "out of memory")

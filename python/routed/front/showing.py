@@ -13,7 +13,7 @@ from ..net.endpoints import Door
 from ..net.loop import READ, Loop
 from ..net.stream import LONGEST, Stream
 from .accounts import Account
-from .snapshots import Snapshots
+from .making import Making
 
 MOST, EACH = 32, 16  # connections, and those of one peer
 SECONDS = 30  # until a connection is ended that takes no text and sends no line
@@ -23,7 +23,7 @@ SNAPSHOT, LONGEST_LINE = b"snapshot", 16  # the line, and bytes of one that isn'
 class Showing:
     """The connections, and the text that was made last."""
 
-    def __init__(self, loop: Loop, listener: socket, account: Account, snapshots: Snapshots) -> None:
+    def __init__(self, loop: Loop, listener: socket, account: Account, snapshots: Making) -> None:
         self.account, self.snapshots = account, snapshots
         self.viewers: set[Viewer] = set()
         Door(loop, listener, self.take)

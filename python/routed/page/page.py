@@ -22,7 +22,7 @@ from ..ask.ask import Answer
 from ..ask.form import answer_of, asked_of, form_of, reasons_of
 from ..ask.search import Search
 from ..ask.telling import Telling
-from ..front.listen import mode
+from ..front.options import mode
 from ..model.groups import add_groups
 from ..model.names import NamesRefused, add_names
 from ..model.rows import Refused, Reply, Request

@@ -7,9 +7,9 @@ import subprocess
 from collections.abc import Callable
 from dataclasses import replace
 
-from ..front.snapshots import DIE_WITH_US
 from ..model.database import Database
 from ..model.rows import Key, Link, Refused, Reply, Request
+from ..net.children import DIE_WITH_US
 from ..net.loop import READ, WRITE, Loop
 from ..net.stream import Stream
 from .solving import Question, Stopped, checked, heads_of
