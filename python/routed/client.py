@@ -105,5 +105,6 @@ def ask_snapshot(place: str, seconds: float = 60) -> Database:
         while lines[-1] != "snapshot end":
             if not lines[0].startswith("version ") or len(lines) > MOST_LINES:
                 raise Refused(lines[0])
-            lines.append(connection.line())
+            if not (line := connection.line()).startswith("held,"):  # a placement of a book
+                lines.append(line)
     return read_snapshot("\n".join(lines).encode())

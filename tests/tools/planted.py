@@ -11,7 +11,7 @@ from routed import tools
 from routed.feed.bgpls import lsdb
 from routed.feed.ospf import lsas
 from routed.follow import asks, versions
-from routed.front import accounts, channels, direct, listen, relays, seats, snapshots, updates, watch
+from routed.front import accounts, books, channels, direct, listen, placing, relays, seats, snapshots, updates, watch
 from routed.net import http, stream
 from routed.pcep import admission, answers, front, making, moves, pcc, session
 
@@ -23,7 +23,8 @@ class Planted(Exception):
 PLACES = {
     "listen": [(channels.Channel, "begin take settle read_lines finish"), (relays.Relay, "end_idle over"),
                (updates.Updates, "go_on drop_changes"), (direct.Direct, "begin read hang_up over finish"), (seats.Seat, "begin renew"),
-               (accounts.Account, "rows lines"), (snapshots.Snapshots, "begin look"), (watch.Watcher, "tell go_on"),
+               (accounts.Account, "rows lines"), (snapshots.Snapshots, "begin look"), (books.Books, "book look make"),
+               (placing.Placer, "tell go_on pass_on begin_text"), (watch.Watcher, "tell go_on"),
                (http, "answer_to"), (http.Reading, "close"), (stream.Stream, "peer drop"), (listen.Front, "signalled")],
     "pcep": [(pcc.Pcc, "go_on proceed flush tick close"), (session.Session, "message again"),
              (answers.Answers, "begin answered"), (moves.Moves, "again following answered"), (making.Making, "reread"),

@@ -167,7 +167,7 @@ class BookAccount(Account):
 
     def kept_bytes(self) -> int:
         """How many bytes of the file of kept rows the book has now, where no row is at the server."""
-        return self.keep.size() if self.cut is None else self.cut
+        return os.stat(self.keep.path).st_size if self.cut is None else self.cut
 
     def end_of_book(self, has_row: bool) -> int:
         """Up to where the file of kept rows has those of the book. It may end with a row, or a part of one, that the book doesn't have."""

@@ -11,14 +11,18 @@ from .sharing import Sharing
 
 BOOK_END = b"book end\n"
 # The rows of a file, a line feed that its last row may lack, and the first bytes of another file.
-FEED = 'if [ -n "$1" ]; then cat -- "$1" && echo; fi && if [ "$2" -gt 0 ]; then head -c "$2" -- "$3"; fi'
+FEED = 'if [ -n "$1" ]; then cat -- "$1" && echo; fi && head -c "$2" -- "$3"'
 
 
 class Text:
-    """The rows of one version: how many bytes of the kept rows they are made of, and who waits for them."""
+    """The rows of one version: how many bytes of the kept rows they are made of, or why that isn't known, and who waits for them."""
 
-    def __init__(self, size: int) -> None:
-        self.size = size
+    def __init__(self, account: BookAccount) -> None:
+        self.size, self.refusal = 0, b""
+        try:
+            self.size = account.kept_bytes()
+        except OSError as error:
+            self.refusal = refusal(error, "")
         self.calls: list[tuple[Owned, Callable[[int, bytes], object]]] = []  # called with the status, and the rows or the reason
         self.is_shown = False  # to viewers
 
@@ -29,6 +33,7 @@ class Books(Making):
 
     def __init__(self, loop: Loop, program: str, account: BookAccount, begin: str | None, sharing: Sharing) -> None:
         super().__init__(loop, account)
+        self.guarded = loop.of(self)  # an exception ends the text that is made
         self.booked, self.begin_path, self.sharing = account, begin or "", sharing
         self.words = [program, "book", "--compact", "--explain"]
         self.texts: dict[int, Text] = {}  # by their versions; the first one is made
@@ -45,10 +50,10 @@ class Books(Making):
 
     def want(self, version: int, loop: Owned, call: Callable[[int, bytes], object]) -> Text:
         """Calls this with the rows of a version, which is the newest, and no row is at the server."""
-        text = self.texts.get(version) or self.texts.setdefault(version, Text(self.booked.kept_bytes()))
+        text = self.texts.get(version) or self.texts.setdefault(version, Text(self.booked))
         text.calls.append((loop, call))
         if not self.child:
-            self.loop.after(0, self.next)
+            self.guarded.after(0, self.next)
         return text
 
     def next(self) -> None:
@@ -63,6 +68,9 @@ class Books(Making):
                 self.make(text)
 
     def make(self, text: Text) -> None:
+        if text.refusal:
+            self.end(1, text.refusal)
+            return
         try:
             self.open_files()
             self.spawn_fed(self.words, ["sh", "-c", FEED, "sh", self.begin_path, str(text.size), self.booked.keep.path], self.files[1])
@@ -87,7 +95,7 @@ class Books(Making):
 
     def prepare(self) -> None:
         if (left := self.pause_until - time.monotonic()) > 0:
-            self.loop.after(left, self.prepare)
+            self.guarded.after(left, self.prepare)
         else:
             self.sharing.ask(b"", self.begin_for_viewers)
 
@@ -99,6 +107,16 @@ class Books(Making):
 
     def show_text(self, viewers: Viewers, version: int, status: int, rows: bytes) -> None:
         tell(viewers, b"".join(framed(status, "snapshot", b"version %d\n" % version + self.run, rows, END)))
+
+    def named(self) -> str:
+        return "texts"
+
+    def fail(self) -> None:
+        """An exception: those that wait for the text that was made read a line that refuses it."""
+        self.end_child()
+        self.is_preparing = False
+        if self.texts:
+            self.end(1, b"an exception")
 
     def drop(self, loop: Owned) -> None:
         """A text for which nobody waits any more isn't begun."""

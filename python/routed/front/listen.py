@@ -34,6 +34,16 @@ With --except the server takes `except` rows of those who ask, too, as `routed-t
 exclude links and routers. With --pairs it takes `pair` rows, too, which ask for two ways that share no circuit or no
 router. Without these options such rows are refused by the reason `kind`.
 
+With --placements and --keep the server has a book (`routed serve --book`), and up to 64 programs place at once at the
+place of --placements. They and the connection for updates use the book's one stream of rows in turns: a turn is whole
+rows of one of them, at most 64 KiB. A connection that places sends place, held, offer, release, show, left and ask rows,
+and the lines `run` and `book`; any other line ends it by `refused`. It reads the lines of its rows, and between its turns
+the lines over, lost and base of the updates' batches. `book` is answered by `version V`, with --run `run N`, the rows of
+`routed book --compact`, and `book end`; or else by `book refused: WORDS`. So is `snapshot` of the connection for updates,
+by `base N vV` and the rows of the base, and at the place of --show by `version V` and all rows. A connection for which
+more than 1,048,576 bytes of lines wait is ended without a word. The file of --begin has rows of a book then, any number
+of them; it can't be a pipe, since each book is made of it and of the file of --keep.
+
 With --begin the batches of a file, as `routed snapshot` makes them, are published before any connection is taken.
 
 The server outlives connections: what one has published is there for the next. N in `row N refused` counts the rows of a
@@ -207,7 +217,7 @@ class Front:
                 self.log.say("info", f"stopped by {number.name}")
                 self.server.terminate()
                 self.is_stopped = True
-        self.updates.loop.call(self.snapshots.look)
+        (self.book.texts.guarded if self.book else self.updates.loop).call(self.snapshots.look)
         self.status = self.server.poll()
 
     def run(self) -> int:

@@ -23,6 +23,7 @@ class Making:
 
     def __init__(self, loop: Loop, account: Account) -> None:
         self.loop, self.account = loop, account
+        self.guarded = loop.of(None)  # for what is done later
         self.run = b"" if account.number is None else f"run {account.number}\n".encode()
         self.child: subprocess.Popen[bytes] | None = None
         self.feeder: subprocess.Popen[bytes] | None = None  # it gives the child the part of a file that it may see
@@ -55,7 +56,7 @@ class Making:
     def prepare_soon(self) -> None:
         if self.viewers and not self.is_preparing:
             self.is_preparing = True
-            self.loop.after(0, self.prepare)
+            self.guarded.after(0, self.prepare)
 
     def open_files(self) -> None:
         """The next text is begun."""

@@ -99,6 +99,11 @@ def screen(figures: Figures, names: Names) -> Iterator[tuple[str, str]]:
         yield "last batch", age("routed_last_batch_age_seconds")
         yield "journal", (f"{number('routed_journal_bytes')} bytes, {number('routed_changes_total')} changes, "
                           f"{number('routed_journal_rows_left')} rows left")
+        if one("routed_placings_left") is not None:
+            yield "placements", (f"{number('routed_placements')} over {number('routed_placement_links')} links, "
+                                 f"{number('routed_lost_placements')} lost, {number('routed_over_bandwidths')} links and priorities over")
+            yield "placings", f"{number('routed_placings_left')} versions left, refused: {listed('routed_refused_placings_total')}"
+            yield "kept rows", f"{number('routed_kept_rows_total')}, {number('routed_keep_bytes')} bytes"
         yield "asks", listed("routed_asks_total")
         yield "time of a row", f"by the relay, half within {share(figures, 0.5)}, 99 of 100 within {share(figures, 0.99)}"
         yield "rows", f"{number('routed_rows_total')} of clients, {number('routed_client_refused_rows_total')} refused"

@@ -14,6 +14,7 @@ from .rows import MOST_CHANGES, Batch, Refused, refusal
 MARK = b"\xef\xbb\xbf"  # the byte order mark
 MOST_ROWS = 1_000_000
 # What listen says: the lines before the rows, the rows, and the line behind them. Each is empty where it isn't there.
+HELD = re.compile(rb"(?m)^held,.*\n")  # a placement, among the rows of a book
 ROUND = re.compile(rb"(?:version ([0-9]{1,20})\n(?:run ([0-9]{1,20})\n)?)?(.*?)(snapshot end\n?)?", re.S)
 
 csv.field_size_limit(sys.maxsize)
@@ -63,8 +64,9 @@ def read_database(data: bytes, until: int | None = None, has_asks: bool = False)
 
 def read_snapshot(data: bytes) -> Database:
     """The database of a snapshot: of `routed snapshot`, or of `routed-tools listen` with the lines round its rows, of which the first
-    has the version."""
+    has the version. Behind the rows of a base may stand those of placements, which aren't read."""
     head, run, rows, tail = ROUND.fullmatch(data).groups()  # type: ignore[union-attr]
+    rows = HELD.sub(b"", rows)
     if head and not tail:
         raise Refused("the snapshot has no line `snapshot end`, so it isn't whole")
     database = read_database(rows)
