@@ -51,7 +51,8 @@ def dialogue(program, checks, room):
         updating.say("end,2,1\n")
         checks.same("the lines of a batch", updating.hear(2), "over 1.1.1.1,10.0.12.1 7\nbase 2 v5\n")
         checks.same("are news", (one.hear(2), other.hear(2)), ("over 1.1.1.1,10.0.12.1 7\nbase 2 v5\n",) * 2)
-        checks.true("versions are told", re.fullmatch(r"run 7\n(version [0-4]\n)*version 5\n", found := until(watching, "version 5")), found)
+        found = until(watching, "version 5")
+        checks.true("versions are told", re.fullmatch(r"run 7\n(version [0-4]\n)*version 5\n", found), found)
         checks.same("the last lines", one.leave(), "")
         other.say("put,1\n")
         checks.same("what isn't a row there", other.rest(), "refused\n")
@@ -70,19 +71,22 @@ def answers(program, checks, room):
         updating.say(LOW)
 
         def rows():
-            compact = subprocess.run([program.path, "book", "--compact"], input=f"{begin}\n{front.kept_rows()}".encode(), capture_output=True)
-            wanted = compacts.run(f"{begin}\n{front.kept_rows()}")[1]
+            text = f"{begin}\n{front.kept_rows()}"
+            compact = subprocess.run([program.path, "book", "--compact"], input=text.encode(), capture_output=True)
+            wanted = compacts.run(text)[1]
             checks.same("the program's text is the reference's", compact.stdout.decode(), wanted)
             return wanted
 
         base = f"{''.join(sorted(BASE.splitlines(True)))}end,1,4\n"
         found = asked(one, "book"), asked(updating, "snapshot", "snapshot end\n"), asked(viewing, "snapshot", "snapshot end\n")
-        checks.same("the book", found, (f"version 2\n{rows()}book end\n", f"base 1 v2\n{base}snapshot end\n", f"version 2\n{rows()}snapshot end\n"))
+        checks.same("the book", found, (f"version 2\n{rows()}book end\n", f"base 1 v2\n{base}snapshot end\n",
+                                        f"version 2\n{rows()}snapshot end\n"))
         checks.same("the base", updating.talk("end,2,1\n") + updating.lines.next(), "over 1.1.1.1,10.0.12.1 7\nbase 2 v3\n")
         one.hear(2)
         found = asked(updating, "snapshot", "snapshot end\n"), asked(one, "book"), asked(viewing, "snapshot", "snapshot end\n")
         low = base.replace(f"put,{LINKS[0]},5,0x00000001,{FREE}\n", LOW)
-        checks.same("the next one", found, (f"base 2 v3\n{low}snapshot end\n", f"version 3\n{rows()}book end\n", f"version 3\n{rows()}snapshot end\n"))
+        checks.same("the next one", found, (f"base 2 v3\n{low}snapshot end\n", f"version 3\n{rows()}book end\n",
+                                            f"version 3\n{rows()}snapshot end\n"))
         os.rename(front.keep, f"{front.keep}.gone")
         one.say(f"release,1\nbook\n{place(9, 0)}")
         line = until(one, "book refused")
@@ -91,13 +95,15 @@ def answers(program, checks, room):
         os.rename(f"{front.keep}.gone", front.keep)
         checks.same("the next book", asked(one, "book"), f"version 5\n{rows()}book end\n")
         shown = subprocess.run([TOOLS, "show", os.path.join(room, "show"), "--json"], capture_output=True, text=True)
-        checks.same("the tool that shows the base", [link["unreserved"][7] for link in json.loads(shown.stdout)["links"]], [10, 100, 100, 100])
+        links = json.loads(shown.stdout)["links"]
+        checks.same("the tool that shows the base", [link["unreserved"][7] for link in links], [10, 100, 100, 100])
 
 
 def beginnings(program, checks, room):
     """Runs that begin with a book: one that is refused ends the start, and the base's batches go on with their numbers."""
     for at, (begin, line) in enumerate((
-            (f"{BASE}end,1,4\nrelease,5\n", "release 5 refused: absent"), (f"{BASE}end,1,4\nfoo\n", "row 6 refused: kind"), (BASE, "unended 4"))):
+            (f"{BASE}end,1,4\nrelease,5\n", "release 5 refused: absent"), (f"{BASE}end,1,4\nfoo\n", "row 6 refused: kind"),
+            (BASE, "unended 4"))):
         os.mkdir(inner := os.path.join(room, str(at)))
         front = Booked(program, inner, begin=begin)
         front.first = front.said.next()

@@ -125,8 +125,9 @@ def raising(program, checks, room):
         updating.talk(f"{BASE}end,1,4\n")
         count, base = 0, 1
         for name, rows in (("Channel.take", place(5)), ("Channel.read_lines", place(5)), ("Channel.read_lines!", place(5)),
-                           ("Placer.pass_on", place(5)), ("Placer.pass_on!", place(5)), ("Account.rows", place(5)), ("Placer.begin_text", "book\n"),
-                           ("Placer.go_on", "book\n"), ("Placer.go_on!", "book\n"), ("Books.book", "book\n"), ("Placer.tell", ""),
+                           ("Placer.pass_on", place(5)), ("Placer.pass_on!", place(5)), ("Account.rows", place(5)),
+                           ("Placer.begin_text", "book\n"), ("Placer.go_on", "book\n"), ("Placer.go_on!", "book\n"),
+                           ("Books.book", "book\n"), ("Placer.tell", ""),
                            ("Channel.finish", None)):
             victim, line = admitted(os.path.join(room, "placements"), "show,1\n")
             if not rows:
@@ -158,7 +159,8 @@ def raising(program, checks, room):
             stays.talk(place(5))
             plant(room, name)
             said = asked(stays, "book")
-            checks.true(f"{name}: the book", said == "book refused: an exception\n" or name.endswith("!") and said.endswith(ENDED_BOOK), said)
+            is_made = name.endswith("!") and said.endswith(ENDED_BOOK)
+            checks.true(f"{name}: the book", said == "book refused: an exception\n" or is_made, said)
             said = front.errors.next()
             checks.true(f"{name}: a line", re.fullmatch(rf"listen: texts: {ENDED}\n", said), said)
             checks.true(f"{name}: the next book", asked(stays, "book").endswith(ENDED_BOOK))

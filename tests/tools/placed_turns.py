@@ -31,8 +31,9 @@ def in_turns(_, checks, room):
         it.say(1, b"11\n")
         found = [(it.answer(b"line %d\n" % at), *(it.hear(at)[0] for at in range(4))) for at in range(6)]
         checks.same("turns and lines", found, [
-            (SHOW % 2, b"", b"", b"line 0\n", b""), (SHOW % 1, b"", b"line 1\n", b"", b""), (b"node,1.1.1.1,0\n", b"line 2\n", b"", b"", b""),
-            (SHOW % 3, b"", b"", b"", b"line 3\n"), (SHOW % 22 * 2, b"", b"", b"line 4\n", b""), (SHOW % 11, b"", b"line 5\n", b"", b"")])
+            (SHOW % 2, b"", b"", b"line 0\n", b""), (SHOW % 1, b"", b"line 1\n", b"", b""),
+            (b"node,1.1.1.1,0\n", b"line 2\n", b"", b"", b""), (SHOW % 3, b"", b"", b"", b"line 3\n"),
+            (SHOW % 22 * 2, b"", b"", b"line 4\n", b""), (SHOW % 11, b"", b"line 5\n", b"", b"")])
         checks.same("no turn is left", it.has(), None)
         it.say(1, SHOW % 1)
         it.say(2, SHOW % 2)
@@ -112,7 +113,8 @@ def unread(_, checks, room):
             it.answer(b"x" * 999 + b"\n")
         checks.true("rows of one that doesn't read have no turn", 50 < at < 1048, at)
         said, is_over = it.hear(1)
-        checks.same("and have one once it reads", (len(said), is_over, it.answer(b"y\n"), it.hear(1)), (at * 1000, False, SHOW % at, (b"y\n", False)))
+        checks.same("and have one once it reads", (len(said), is_over, it.answer(b"y\n"), it.hear(1)),
+                    (at * 1000, False, SHOW % at, (b"y\n", False)))
 
 
 def books(_, checks, room):
@@ -134,7 +136,8 @@ def books(_, checks, room):
         while not said.endswith(b"base 1 v5\n") and len(said) < 600_000:
             it.settle()
             said += it.hear(1)[0]
-        checks.true("the book, and the news behind it", said == b"version 4\n" + b"rows\n" * 100_000 + b"book end\nlost 1\nbase 1 v5\n", len(said))
+        wanted = b"version 4\n" + b"rows\n" * 100_000 + b"book end\nlost 1\nbase 1 v5\n"
+        checks.true("the book, and the news behind it", said == wanted, len(said))
         it.answer()
         checks.true("then the run", it.hear(1)[0] == b"run %s\n" % it.account.run.encode())
         it.say(2, b"book,\n")
@@ -157,7 +160,8 @@ def refused(_, checks, room):
             while it.has() is not None:
                 turns.append(it.answer(b"line\n" if it.has() in (SHOW % 1, SHOW % 3) else b""))
             checks.same(f"behind {bad[:9]!r}", (it.hear(1), it.hear(2)), ((b"line\nrefused\n", True), (b"line\n", False)))
-            checks.true(f"what the server gets with {bad[:9]!r}", bad.strip() not in b"".join(turns) and SHOW % 2 not in b"".join(turns), turns)
+            rows = b"".join(turns)
+            checks.true(f"what the server gets with {bad[:9]!r}", bad.strip() not in rows and SHOW % 2 not in rows, turns)
     with shares(room, 1) as it:
         for row in (b"place,1\n", b"held\n", b"offer,\n", b"release,1\r\n", b"\n", b"ask,1\rleft,1\n", SHOW % 1):
             it.say(1, row)
@@ -179,7 +183,8 @@ def many(_, checks, room):
         it.clients[5].close()
         it.settle()
         it.answer()
-        checks.same("a place is free", (len(it.placing.placers), it.connect(it.placing.take) is None, len(it.placing.placers)), (63, False, 64))
+        before, _ = len(it.placing.placers), it.connect(it.placing.take)
+        checks.same("a place is free", (before, len(it.placing.placers)), (63, 64))
 
 
 def rate(_, checks, room):
@@ -225,7 +230,8 @@ def failed(_, checks, room):
         next(placer for placer in it.placing.placers if placer.use.number == 1).fail()
         it.version = 2
         it.say(2, SHOW % 2)
-        checks.same("one that has gone in its turn", (it.answer(b"place 2 v2 route cost=5 hops=3 again=no ero=00\n"), it.answer(b"y\n"), it.hear(2)),
+        rows = it.answer(b"place 2 v2 route cost=5 hops=3 again=no ero=00\n")
+        checks.same("one that has gone in its turn", (rows, it.answer(b"y\n"), it.hear(2)),
                     (SHOW % 1, SHOW % 2, (b"y\n", False)))
         checks.same("its placements count", (it.account.placements.links, it.account.version), ({1: 2, 2: 3}, 2))
     with shares(room, 2) as it:

@@ -41,8 +41,8 @@ def parser(text: str) -> argparse.ArgumentParser:
     words = argparse.ArgumentParser(prog="routed-tools listen", description=text, formatter_class=argparse.RawDescriptionHelpFormatter)
     words.add_argument("--journal", required=True, metavar="FILE", help="a new file, for the batches of this run")
     words.add_argument("--begin", metavar="FILE",
-                       help="batches that are published before any connection is taken: a snapshot of the run before. With --placements the "
-                            "rows of a book")
+                       help="batches that are published before any connection is taken: a snapshot of the run before; "
+                            "with --placements rows of a book")
     words.add_argument("--run", type=run, metavar="N", help="the number of this run, which it tells")
     words.add_argument("--renew", action="store_true", help="once the journal has failed and there is room again, end with status 3")
     words.add_argument("--ask", required=True, type=Endpoint, metavar="PLACE", help="where clients ask")

@@ -1,4 +1,4 @@
-"""What `listen --renew` does once a file of the run can't be written: it waits for room, and has the run end, so that the next one begins."""
+"""What `listen --renew` does once a file can't be written: it waits for room, and has the run end, so that the next one begins."""
 from __future__ import annotations
 
 import os

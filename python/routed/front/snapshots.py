@@ -13,8 +13,8 @@ TAIL = 1 << 16  # bytes of a journal's end in which its last row stands
 
 
 class Snapshots(Making):
-    """Snapshots of the running journal, which `routed snapshot` makes. A text is for all that wait: the connection for updates, and viewers.
-    Where that connection begins a snapshot, the one that is made for viewers gives way."""
+    """Snapshots of the running journal, which `routed snapshot` makes. A text is for all that wait: the connection for updates, and
+    viewers. Where that connection begins a snapshot, the one that is made for viewers gives way."""
 
     def __init__(self, loop: Loop, program: str, account: Account) -> None:
         super().__init__(loop, account)
