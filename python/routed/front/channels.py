@@ -5,8 +5,10 @@ connection gets one read and one write each way, of at most 64 KiB, so that none
 from __future__ import annotations
 
 import time
+from collections.abc import Callable
+from typing import Protocol
 
-from ..net.loop import READ, Loop, Owned
+from ..net.loop import READ, Loop, Owned, Owner
 from ..net.stream import LONGEST, Stream
 from .accounts import Account, Use
 from .tallies import Counts
@@ -21,6 +23,21 @@ MARK = b"\xef\xbb\xbf"  # the byte order mark, which the server's reader skips a
 NEW, TAKING, PAUSED, ENDING, UNHEARD, DROPPING, OVER, FREE = range(8)
 
 
+class Served(Protocol):
+    """The server's stream as a channel uses it. `waiting` has the rows that it doesn't take yet."""
+
+    waiting: bytearray
+    is_ended: bool
+
+    def give(self, owner: Owner | None, call: Callable[[int], object]) -> None: ...
+
+    def wait(self, is_read: bool) -> None: ...
+
+    def flush(self) -> int: ...
+
+    def text(self) -> bytes: ...
+
+
 class Channel:
     """A stream of the server, and a connection that uses it.
 
@@ -29,7 +46,7 @@ class Channel:
 
     place = ""
 
-    def __init__(self, loop: Loop, server: Stream, account: Account, counts: Counts) -> None:
+    def __init__(self, loop: Loop, server: Served, account: Account, counts: Counts) -> None:
         # fewer than 30 attributes, all set here: each ask takes CPython longer where an instance has more, or gets some later
         self.loop: Owned = loop.of(self)
         self.server, self.account, self.counts = server, account, counts

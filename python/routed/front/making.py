@@ -66,7 +66,7 @@ class Making:
     def spawn(self, words: Sequence[str], rows: int = subprocess.DEVNULL) -> None:
         self.child = subprocess.Popen(words, stdin=rows, stdout=self.files[0], stderr=self.files[1], preexec_fn=DIE_WITH_US)
 
-    def spawn_fed(self, words: Sequence[str], feeder: Sequence[str], errors: int) -> None:
+    def spawn_fed(self, words: Sequence[str], feeder: Sequence[str], errors: int = subprocess.DEVNULL) -> None:
         """Begins the program with what another one writes."""
         self.feeder = subprocess.Popen(feeder, stdin=subprocess.DEVNULL, stdout=subprocess.PIPE, stderr=errors, preexec_fn=DIE_WITH_US)
         assert self.feeder.stdout

@@ -48,6 +48,7 @@ class Relay(Channel):
     The server gets further rows once it has answered those before. One row is passed on at once, but more only in a turn."""
 
     place = "ask"
+    server: Stream
 
     def __init__(self, relays: Relays, seat: Seat, server: Stream) -> None:
         super().__init__(relays.loop, server, relays.account, relays.account.tallies.relayed[seat.number])

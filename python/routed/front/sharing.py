@@ -11,7 +11,7 @@ from collections.abc import Callable
 
 from ..net.loop import READ, WRITE, Loop, Owner
 from ..net.stream import Stream
-from .accounts import Account
+from .booked import BookAccount
 
 
 def own_request() -> tuple[bytes, bytes]:
@@ -76,7 +76,7 @@ class Share:
 class Sharing:
     """The stream. `heard` is called with what the server says in each turn, before the connection that has it."""
 
-    def __init__(self, loop: Loop, server: Stream, account: Account) -> None:
+    def __init__(self, loop: Loop, server: Stream, account: BookAccount) -> None:
         self.loop, self.server, self.account = loop, server, account
         self.shares: set[Share] = set()
         self.queue: collections.deque[Share] = collections.deque()  # those that have rows, and no turn yet
