@@ -257,6 +257,9 @@ def ended(_, checks, room):
         os.close(it.to)
         it.settle()
         checks.same("lines and ends", [it.hear(at) for at in range(3)], [(b"", True), (b"a\n", True), (b"", True)])
+        for _ in range(2):
+            it.sharing.look()
+        checks.true("a turn that doesn't end is said", it.log().endswith("shares: the server has said nothing of a turn's end for 30 s\n"))
         late = it.connect(it.placing.take)
         checks.same("one that comes then", late.recv(9), b"")
         it.to = os.dup(it.rows)

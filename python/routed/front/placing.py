@@ -153,7 +153,7 @@ class Placer(Writing):
             self.placing.books.drop(self.loop)
             if self.share:
                 self.share.close()
-            self.to_server = b""
+            self.to_server, self.text, self.news = b"", [], b""
             connection, self.connection = self.connection, None
             if self.use.number:
                 self.use.end()

@@ -13,6 +13,8 @@ from ..net.loop import READ, WRITE, Loop, Owner
 from ..net.stream import Stream
 from .booked import BookAccount
 
+LATE = 30  # seconds in which a turn ends, unless the server takes no rows any more
+
 
 def own_request() -> tuple[bytes, bytes]:
     """A request of our own, and how the line of its reply begins. No row that is there has this number, which nobody can guess."""
@@ -82,9 +84,18 @@ class Sharing:
         self.queue: collections.deque[Share] = collections.deque()  # those that have rows, and no turn yet
         self.turn: Share | None = None  # whose rows the server has
         self.reply = b""  # how the reply to our own request begins
+        self.turns, self.looked_at = 0, 0  # how many have begun, and had when it was looked last
         self.heard: Callable[[Share, bytes], object] = lambda share, said: None
         server.give(None, self.go_on)
         server.wait(True)
+        loop.after(LATE, self.look)
+
+    def look(self) -> None:
+        """Says so where a turn doesn't end, since all wait for it then."""
+        if self.turn and self.turns == self.looked_at:
+            self.account.log.say("error", f"the server has said nothing of a turn's end for {LATE} s")
+        self.looked_at = self.turns
+        self.loop.after(LATE, self.look)
 
     def share(self) -> Share:
         """The use of a further connection."""
@@ -113,6 +124,7 @@ class Sharing:
             if share.rows or share.answered:  # else it has gone
                 row, self.reply = own_request()
                 self.turn, rows, share.rows = share, share.rows, b""
+                self.turns += 1
                 self.server.write(rows + row)
                 share.flush()
                 if self.server.waiting:
