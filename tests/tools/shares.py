@@ -1,4 +1,4 @@
-"""The place of `routed-tools listen --placements` without a program: the connections are those of the front, and their server is this file."""
+"""The place of `routed-tools listen --placements` without a program: connections are those of the front, and the server is this file."""
 import contextlib
 import os
 import re
