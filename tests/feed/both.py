@@ -8,6 +8,7 @@ import tempfile
 
 from checks import TOOLS
 from feed.beside import until
+from feed.booked import booked
 from feed.played import A, A_B, B, BROKEN_DROPS, B_A, B_C, C, CHAIN_ROWS, COLLECT, C_B, HOLD, MANY_DIGITS, PAIR_ROWS, PATIENCE, QUIET, Feed
 from feed.played import going_on, row, snapshot
 
@@ -355,4 +356,5 @@ def scenarios(checks, side, program):
     """Runs all of them with the sessions of one protocol: side() is a router, whose messages its own functions make."""
     for scenario in (started, alike, anew, refusals, restarted, trickle, unreached):
         scenario(Of(checks, side.name), side)
+    booked(Of(checks, side.name), side)
     killed(Of(checks, side.name), side, program)

@@ -233,7 +233,8 @@ class Feed:
             raise AssertionError(f"the feed doesn't ask for the version at first: {first}")
         if version is None:
             return
-        self.say(f"version 9\nask 9 v9 none\nbatch 3 refused: expected 9\nrow 9 refused: kind\nask {asked[1]} v{version} unknown-from")
+        self.say("version 9\nask 9 v9 none\nbatch 3 refused: expected 9\nrow 9 refused: kind\nover 9.9.9.9,10.9.9.9 7\nlost 9\nbase 9 v9\n"
+                 f"ask {asked[1]} v{version} unknown-from")
         if version and (row := self.line()) != "snapshot":
             raise AssertionError(f"the feed doesn't ask what is there: {row}")
         for line in told:

@@ -198,6 +198,31 @@ def runs(checks):
         told.end()
 
 
+def booked(checks):
+    """Where the program has a book, lines have the published version, which placings raise, and not the number of the base's batch."""
+    told = Told()
+    told.router.send(update(*ROUTERS, *LINKS, *BOTH))
+    checks.same("before the first batch", told.batch("base 1 v1"), ((PAIR_ROWS, 1), SIDS))
+    told.router.send(update(te_lsa(A, A_B, B, B_A, metric=9, sequence=2), link_lsa(A, A_B, sid(18), sequence=2)))
+    checks.same("a batch behind which others have placed", told.batch("base 2 v7"),
+                (([row(A, A_B, B, B_A, metric=9)], 2), [f"sid,2,{A},{A_B},18"]))
+    checks.same("a label that changes: at the version that is published", told.quiet(link_lsa(A, A_B, sid(19), sequence=3)),
+                [f"sid,7,{A},{A_B},19"])
+    told.router.send(update(te_lsa(A, A_B, B, B_A, metric=8, sequence=3), te_lsa(B, B_A, A, A_B, metric=8, sequence=2),
+                            link_lsa(A, A_B, sid(20), sequence=4)))
+    both = [row(A, A_B, B, B_A, metric=8), row(B, B_A, A, A_B, metric=8)]
+    checks.same("a batch that is refused", told.batch("batch 3 refused: memory"), ((both, 3), [f"sid,8,{A},{A_B},20"]))
+    checks.same("its half has its lines", told.batch("base 3 v12"), ((both[:1], 3), [f"sid,8,{A},{A_B},20"]))
+    checks.same("and the other half no more", told.batch("base 4 v13"), ((both[1:], 4), []))
+    checks.same("and the next lines are of their version", told.quiet(link_lsa(A, A_B, sid(21), sequence=5)), [f"sid,13,{A},{A_B},21"])
+    told.end()
+    told = Told(version=38, told=["base 7 v40", *snapshot(0, PAIR_ROWS)[1:]])
+    checks.same("a feed that goes on with a base", told.quiet(*ROUTERS, *LINKS, *BOTH), [each.replace(",1,", ",40,", 1) for each in SIDS])
+    told.router.send(update(te_lsa(A, A_B, B, B_A, metric=9, sequence=2), link_lsa(A, A_B, sid(18), sequence=2)))
+    checks.same("and puts another metric", told.batch("base 8 v50"), (([row(A, A_B, B, B_A, metric=9)], 8), [f"sid,41,{A},{A_B},18"]))
+    told.end()
+
+
 def again(checks):
     """A feed that starts again makes the file anew, by a rename."""
     grouped = [each.replace("0x00000000", "0x00000001") for each in PAIR_ROWS]
@@ -242,4 +267,4 @@ def sids(_, checks):
     except OSError as fault:
         print(f"skipped: the feed's SIDs, since no socket can be had: {fault}")
         return
-    checks.parts((lines, which, malformed, groups, refusals, held, runs, again, faults), checks)
+    checks.parts((lines, which, malformed, groups, refusals, held, runs, booked, again, faults), checks)

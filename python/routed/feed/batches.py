@@ -9,11 +9,13 @@ from ..model.rows import MOST_CHANGES, Batch, Change, Drop, Key, Row, rank, remo
 from ..net.loop import Stopped
 
 MOST_VAIN = 8  # refusals in a row from which nothing followed
+MOST_NEWS = 8 * MOST_CHANGES + 65_536  # lines `over` and `lost` of a batch: for each priority of its links, and for each placement
 REFUSED_ROW = re.compile(r"row \d+ refused: .+")
+NEWS = re.compile(r"over [0-9.]+,[0-9.]+ [0-7]|lost \d+")  # what a batch does to placements, before the batch's own line
 OTHERS = "another program has published, and the feed has to be the only one: end that program, and start the feed again"
 UNKNOWN = "the program's database isn't the one that the feed began with: start the feed again"
 # The first words of refusals behind which no batch is taken any more, and what the feed adds to their lines.
-LAST = {"exhausted": "", "journal": "", "stopped": "", "expected": f": {OTHERS}", "absent": f": {UNKNOWN}"}
+LAST = {"exhausted": "", "keep": "", "journal": "", "stopped": "", "expected": f": {OTHERS}", "absent": f": {UNKNOWN}"}
 
 
 def named(change: Change) -> str:
@@ -22,10 +24,12 @@ def named(change: Change) -> str:
 
 
 class Batches:
-    """One batch at a time: the next is written once the line of the last has come. `database` is the program's, at its version."""
+    """One batch at a time: the next is written once the line of the last has come. `database` is the program's: of a server with a book
+    the base, whose version counts the batches of the base alone."""
 
     def __init__(self, database: Database, say: Callable[[str], None], count: Callable[[str], None]) -> None:
-        self.database, self.say, self.count = database, say, count  # the last is called with the first word of each refusal of a batch
+        self.say, self.count = say, count  # the latter is called with the first word of each refusal of a batch
+        self.begin(database, database.version)
         self.barred: dict[Key, Row] = {}  # those that the program refused
         self.sent: list[Change] = []  # the changes of the batch whose line hasn't come
         self.before, self.behind = 0, 0  # asks whose lines haven't come: sent before that batch, and behind it
@@ -33,6 +37,11 @@ class Batches:
         self.size = MOST_CHANGES
         self.is_cut = False  # whether there is more to do than that batch
         self.vain = 0  # refusals in a row from which nothing followed
+        self.news = 0  # lines `over` and `lost` of that batch
+
+    def begin(self, database: Database, published: int) -> None:
+        """Goes on from the program's database, at the version that the program has published last."""
+        self.database, self.published = database, published
 
     def next(self, wanted: dict[Key, Row], changed: Collection[Key] | None = None) -> str:
         """The text of the next batch towards the wanted rows, drops first; empty where there is none. If it is known which keys have
@@ -69,21 +78,31 @@ class Batches:
         if is_row:
             self.row = line
             return True
-        found = re.fullmatch(r"version (\d+)|batch (\d+) refused: (.+)", line)
+        if self.sent and NEWS.fullmatch(line):
+            self.say(f"batch {self.database.version + 1}: {line}")
+            self.news += 1
+            if self.news > MOST_NEWS:
+                raise Stopped(f"{line}: no batch has more than {MOST_NEWS} such lines")
+            return True
+        found = re.fullmatch(r"version (\d+)|batch (\d+) refused: (.+)|base (\d+) v(\d+)", line)
         if not found:
             return False
-        if not self.sent or (found[1] or found[2]) != str(self.database.version + 1):
+        number = found[1] or found[2] or found[4]
+        if not self.sent or number != str(self.database.version + 1):
             raise Stopped(f"{line}: {OTHERS}")
-        self.before, self.behind = self.behind, 0
-        if found[1]:
-            self.accepted(line)
-        else:
+        self.before, self.behind, self.news = self.behind, 0, 0
+        if found[2]:
             self.refused(line, found[3].split())
+        else:
+            self.accepted(line, found[5] or number)
         return True
 
-    def accepted(self, line: str) -> None:
+    def accepted(self, line: str, version: str) -> None:
         if self.row:  # a change that was left open made up for it
             raise Stopped(f"{self.row}, and then {line}: {UNKNOWN}")
+        if len(version) > 20 or int(version) <= self.published:
+            raise Stopped(f"{line}: {UNKNOWN}")
+        self.published = int(version)
         self.database.apply(self.batch())
         if any(change.is_removal for change in self.sent):  # there is room again
             self.is_cut |= bool(self.barred)

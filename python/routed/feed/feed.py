@@ -184,16 +184,17 @@ class Feed(Hearing):
         if self.asked.metrics:
             Page(self.loop, self.asked.metrics.bind(0o600), self.figures.text)
             atexit.register(self.asked.metrics.leave)
-        database = begun(self.program, self.asked.journal)
+        database, published = begun(self.program, self.asked.journal)
         if self.files:
             run = run_of(self.program)
             for file in self.files.values():
                 file.head = f"run,{run}\n" if run else ""
-        self.batches.database, self.is_begun = database, True
+        self.batches.begin(database, published)
+        self.is_begun = True
         self.supervised.ready()
-        if database.version:
+        if published:
             marks = len(database.marks())
-            self.asked.say(f"going on from version {database.version}, of {len(database.rows) - marks} links and {marks} marks; "
+            self.asked.say(f"going on from version {published}, of {len(database.rows) - marks} links and {marks} marks; "
                            f"what the router doesn't tell of within {self.asked.hold:g} s is dropped")
         self.program.take = self.take_lines
         if self.asks:
@@ -213,7 +214,7 @@ class Feed(Hearing):
         """The status line of the unit."""
         if not self.is_begun:
             return "asking what the server has"
-        return (f"version {self.batches.database.version}, {self.network.counts()[0]} links, "
+        return (f"version {self.batches.published}, {self.network.counts()[0]} links, "
                 f"{'connected' if self.is_connected else 'no connection'} to {self.asked.where}")
 
     def failed(self, line: str) -> None:
@@ -324,7 +325,7 @@ def figures_of(feed: Feed) -> Figures:
     figures.age("routed_feed_heard_age_seconds", "Seconds since the router sent anything; absent where it never did.",
                 lambda: feed.heard_at)
     figures.gauge("routed_feed_version", "The version of the last batch that was accepted.",
-                  lambda: feed.batches.database.version if feed.is_begun else None)
+                  lambda: feed.batches.published if feed.is_begun else None)
     figures.gauge("routed_feed_links", "Links of the network.", lambda: feed.network.counts()[0])
     figures.gauge("routed_feed_marks", "Routers without transit.", lambda: feed.network.counts()[1])
     figures.gauge("routed_feed_left_out", "Links that are left out, by the reason.", lambda: feed.network.counts()[2], "reason")

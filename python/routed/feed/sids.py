@@ -2,7 +2,8 @@
 The first line is `run,NAME` where the program says the name of its run, as `routed-tools listen` does: versions are of that run.
 
 A reply at version V goes by the last line of each link whose version isn't above V. Each line is written before the batch
-of its number is sent. The file of SRLGs (`--srlgs FILE`) is the same, of lines `srlg,VERSION,ROUTER,LOCAL,GROUP GROUP ..`.
+that makes its version is sent. Where the program has a book, placings may come between, and the batch makes a later version than
+the one in its lines. The file of SRLGs (`--srlgs FILE`) is the same, of lines `srlg,VERSION,ROUTER,LOCAL,GROUP GROUP ..`.
 """
 from __future__ import annotations
 
@@ -39,14 +40,14 @@ class SidFile:
     def write(self, batches: Batches, known: Values, rows: dict[Key, Row]) -> None:
         """Writes what changes, before the batch that `batches` has made or, where there is none, for the present version."""
         wanted = {**known, **self.put_off(batches, known, rows)}
-        number = batches.database.version + bool(batches.sent)
+        number = batches.published + bool(batches.sent)
         keys = {key for key in self.labels.keys() | wanted.keys() if self.labels.get(key) != wanted.get(key)}
         if batches.sent:
             keys, self.again = keys | self.again, set()
         lines = []
         for key in sorted(keys, key=rank):
             # a link that the program had before the feed came has the label at the program's version, too
-            since = batches.database.version if self.beside and key in batches.database.rows else number
+            since = batches.published if self.beside and key in batches.database.rows else number
             value = wanted.get(key, "")
             text = " ".join(map(str, sorted(value))) if isinstance(value, frozenset) else value
             lines.append(f"{self.word},{since},{','.join(key)},{text}\n")
