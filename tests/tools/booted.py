@@ -207,8 +207,9 @@ class Steps:
         units = ["routed-serve.service", "routed-feed.service", "routed-pcep.service", "routed-page.service", "routed-solve.socket",
                  "routed-roll.timer"]
         self.checks.same("no unit is active or enabled", [self.state(unit) for unit in units], [("inactive", "disabled")] * len(units))
-        self.checks.same("the folders", self.system.said("stat -c '%n %a %U %G' /var/lib/routed /run/routed /run/routed/updates"),
-                         "/var/lib/routed 750 routed routed\n/run/routed 755 routed routed\n/run/routed/updates 2750 routed routed-updates")
+        self.checks.same("the folders", self.system.said("stat -c '%n %a %U %G' /var/lib/routed /run/routed /run/routed/*/").splitlines(),
+                         ["/var/lib/routed 750 routed routed", "/run/routed 755 routed routed",
+                          "/run/routed/placements/ 2750 routed routed-placements", "/run/routed/updates/ 2750 routed routed-updates"])
 
     def start(self):
         """A start returns once programs can connect."""
@@ -352,7 +353,7 @@ class Steps:
                          ["routed: /var/lib/routed stays, since it has files",
                           "routed: /etc/systemd/system/routed-roll.timer.d stays, since it is no file of the package",
                           "routed: /etc/systemd/system/routed-serve.service.d stays, since it is no file of the package",
-                          "routed: the user routed and the groups routed and routed-updates stay"])
+                          "routed: the user routed and the groups routed, routed-updates and routed-placements stay"])
         self.checks.same("files of it that are left", self.system.said(
             "find / -xdev -name '*routed*' -not -path '/proc/*' -not -path '/packages*' -not -path '/var/log/*' | sort").splitlines(),
             ["/etc/systemd/system/routed-roll.timer.d", "/etc/systemd/system/routed-serve.service.d", "/var/lib/routed"])

@@ -21,6 +21,7 @@ from tools.fronts import Connection
 DEPLOY = os.path.join(TOP, "deploy")
 KILLS, SERVING = 100, 0.2  # and the seconds of a run in which it is killed
 FREE = ",".join(["7"] * 8)
+KINDS = {"kept": "keep"}  # options whose word isn't the kind of their file
 TOOLS = f"""#!/bin/sh
 PYTHONPATH={TOP}/python PYTHONDONTWRITEBYTECODE=1 exec {sys.executable} -m routed "$@"
 """
@@ -58,29 +59,41 @@ def last_of(journal):
 # ---- what a run begins with
 
 
+class Runs:
+    """The folder of runs in a room, and what the script `keep` makes of it."""
+
+    def __init__(self, program, room, *options, kinds=("begin", "journal")):
+        self.env, self.folder, self.options, self.kinds = around(program, room), os.path.join(room, "runs"), options, kinds
+
+    def keep(self, *more, **env):
+        """The status of the script, and what it prints; its command prints its words."""
+        ran = subprocess.run([os.path.join(DEPLOY, "keep"), *self.options, *more, self.folder, "echo"], env={**self.env, **env},
+                             capture_output=True, text=True, timeout=60, start_new_session=True)
+        return ran.returncode, ran.stdout, ran.stderr
+
+    def ran(self, number, *said):
+        """The same of a run that begins."""
+        words = " ".join(f"--{KINDS.get(kind, kind)} {self.folder}/{number}.{kind}" for kind in self.kinds)
+        return 0, f"--run {int(number)} {words}\n", "".join(f"keep: {line}\n" for line in said)
+
+    def write(self, name, text):
+        with open(os.path.join(self.folder, name), "w", encoding="ascii") as file:
+            file.write(text)
+
+    def read(self, name):
+        with open(os.path.join(self.folder, name), encoding="ascii") as file:
+            return file.read()
+
+    def names(self):
+        return sorted(name for name in os.listdir(self.folder) if name != "lock")
+
+
 def beginnings(program, checks):
     with open(os.path.join(TOP, "examples/nsfnet.journal"), encoding="ascii") as file:
         whole = file.read()
     with tempfile.TemporaryDirectory() as room:
-        env, folder = around(program, room), os.path.join(room, "runs")
-
-        def keep(*command):
-            ran = subprocess.run([os.path.join(DEPLOY, "keep"), folder, *(command or ["echo"])], env=env, capture_output=True, text=True,
-                                 timeout=60)
-            return ran.returncode, ran.stdout, ran.stderr
-
-        def ran(number, *said):
-            words = " ".join(f"--{kind} {folder}/{number}.{kind}" for kind in ("begin", "journal"))
-            return 0, f"--run {int(number)} {words}\n", "".join(f"keep: {line}\n" for line in said)
-
-        def write(name, text):
-            with open(os.path.join(folder, name), "w", encoding="ascii") as file:
-                file.write(text)
-
-        def read(name):
-            with open(os.path.join(folder, name), encoding="ascii") as file:
-                return file.read()
-
+        runs = Runs(program, room)
+        env, folder, keep, ran, write, read = runs.env, runs.folder, runs.keep, runs.ran, runs.write, runs.read
         checks.same("a first run", keep(), ran("000001", f"{folder}: there is no run yet", "000001 begins with an empty network"))
         checks.same("a run that was not begun", keep(), ran("000001", "000001 was not begun: it begins now"))
         write("000001.journal", "")

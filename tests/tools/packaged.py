@@ -139,7 +139,7 @@ def steps(checks, first, second, room):
     checks.same("a purge says what stays", (status, said),
                 (0, ["routed: /var/lib/routed stays, since it has files",
                      "routed: /etc/systemd/system/routed-serve.service.d stays, since it is no file of the package",
-                     "routed: the user routed and the groups routed and routed-updates stay"]))
+                     "routed: the user routed and the groups routed, routed-updates and routed-placements stay"]))
     checks.same("a purge leaves nothing else", root.left(),
                 ["etc/systemd/system/routed-serve.service.d/port.conf", "var/lib/routed/000001.journal"])
     checks.true("nor its folders", not any(os.path.exists(os.path.join(root.top, name)) for name in ("etc/routed", "run/routed")))
@@ -152,7 +152,7 @@ def empty(checks, first, _, room):
     root = Root(room)
     root.dpkg("-i", first)
     checks.same("a purge of what never ran", root.dpkg("-P", "routed")[:2],
-                (0, ["routed: the user routed and the groups routed and routed-updates stay"]))
+                (0, ["routed: the user routed and the groups routed, routed-updates and routed-placements stay"]))
     checks.same("nothing is left", (root.left(), os.path.exists(os.path.join(root.top, "var/lib/routed"))), ([], False))
 
 
