@@ -23,6 +23,18 @@ def until(test, what):
     return found
 
 
+def to_front(router, updates):
+    """A feed at the place of updates of a front, once that of the feed before is free."""
+    while True:
+        feed = Feed(router, "--hold", "1", command=("--to", updates), is_accepted=False)
+        until(lambda: feed.process.poll() is not None or router.is_waiting(), "a feed")
+        if feed.process.poll() is None:
+            router.accept()
+            return feed
+        if not feed.ended()[2].endswith("answered: busy\n"):
+            raise AssertionError(feed.said.decode())
+
+
 def beside_server(program, checks):
     """A feed is started again beside a running `routed serve`, and learns the database from its journal. Then the server ends."""
     begun = "\n".join([*CHAIN_ROWS, "end,1,4\n"])

@@ -1,6 +1,13 @@
 """A feed whose program has a book: its batches are those of the base, other programs place between them, and their lines name both the
 number of the batch and the version that is published."""
-from feed.played import A, A_B, B, BROKEN_DROPS, B_A, B_C, CHAIN_ROWS, HOLD, MANY_DIGITS, PAIR_ROWS, Feed, going_on, row, snapshot
+import os
+import tempfile
+
+from feed.beside import to_front, until
+from feed.lab import lab_rows, recorded
+from feed.played import A, A_B, B, BROKEN_DROPS, B_A, B_C, C, CHAIN_ROWS, HOLD, MANY_DIGITS, PAIR_ROWS, Feed, Router, going_on
+from feed.played import row, snapshot
+from tools.fronts import Connection, Front
 
 UNKNOWN = "the program's database isn't the one that the feed began with: start the feed again"
 OTHERS = "another program has published, and the feed has to be the only one: end that program, and start the feed again"
@@ -140,6 +147,86 @@ def endless(checks):
         checks.fail("one more is taken")
     except Stopped as fault:
         checks.same("one more ends the feed", str(fault), f"lost 1: no batch has more than {MOST_NEWS} such lines")
+
+
+# ---- beside the real routed-tools listen
+
+
+def with_placements(program, room):
+    """A front with a book, the place for programs that place, and the file of accepted rows."""
+    placements, keep = (os.path.join(room, name) for name in ("placements", "kept"))
+    return Front(program, room, "--clients", "2", "--placements", placements, "--keep", keep), placements, keep
+
+
+def placing(name, head, tail):
+    return f"place,{name},{head},{tail},7,100,0x0,0x0,0x0,\n"
+
+
+def placed(checks, side, program):
+    """A feed is killed, others place meanwhile, and the next feed drops what went: the base is the feed's alone."""
+    with tempfile.TemporaryDirectory() as room:
+        front, placements, keep = with_placements(program, room)
+        with front:
+            router, placer = side(), Connection(placements)
+            feed = to_front(router, front.updates)
+            router.send(side.chain)
+            checks.same("the feed's batch is news for those who place", placer.hear(1), "base 1 v1\n")
+            route = "route cost=14 hops=2 again=no ero=0014140101080a000001200001080a0000032000\n"
+            checks.same("a placing", placer.talk(placing(5, A, C)), f"place 5 v2 {route}")
+            feed.process.kill()
+            feed.process.wait()
+            router.hang_up()
+            checks.same("another without a feed", placer.talk(placing(6, A, C)), f"place 6 v3 {route}")
+            feed = to_front(router, front.updates)
+            router.send(side.broken)
+            checks.same("what went meanwhile is dropped, in the next batch of the base", placer.hear(3), "lost 5\nlost 6\nbase 2 v4\n")
+            checks.same("a release", placer.talk("release,5\n"), "released 5 v5\n")
+            router.send(side.chain)
+            checks.same("what comes back is the next", placer.hear(1), "base 3 v6\n")
+            said = "".join(f"{side.name}: batch 2: lost {name}\n" for name in (5, 6))
+            checks.same("what the feed says", feed.end(), going_on(3, 4, 0, 1, side.name) + said)
+            router.hang_up()
+        with open(keep, encoding="ascii") as file:
+            checks.same("what is kept", file.read(), "\n".join(
+                [*CHAIN_ROWS, "end,1,4", placing(5, A, C) + placing(6, A, C) + BROKEN_DROPS[0], *BROKEN_DROPS[1:], "end,2,2", "release,5",
+                 *CHAIN_ROWS[2:], "end,3,2\n"]))
+
+
+def recorded_beside(program, checks):
+    """The messages of a real router, while a placement is in the book: its base is what the router told, and nothing less."""
+    parts = {name: b"".join(data for _, data in messages) for name, messages in recorded().items()}
+    with tempfile.TemporaryDirectory() as room:
+        front, placements, _ = with_placements(program, room)
+        with front:
+            router, placer, news = Router(), Connection(placements), []
+
+            def base():
+                """The rows of the base, as the book has them; other lines are news."""
+                placer.say("book\n")
+                lines = list(iter(placer.lines.next, "book end\n"))
+                news.extend(line for line in lines if line.startswith(("over ", "lost ")))
+                return [line.rstrip("\n") for line in lines if line.startswith("put,")]
+
+            feed = to_front(router, front.updates)
+            router.send(parts["base"])
+            rows = lab_rows()
+            until(lambda: base() == rows, "the lab")
+            line = placer.talk(placing(1, "10.0.0.2", "10.0.0.4").replace(",100,", ",50000000,"))
+            checks.true("a placing over the circuit that goes down", line.startswith("place 1 v2 route cost=20 hops=1 "), line)
+            router.send(parts["bandwidth"])
+            taken = [each.replace("125000000", "90000000") if each.startswith("put,10.0.0.1,10.1.13.1,") else each for each in rows]
+            until(lambda: base() == taken, "bandwidth that is taken")
+            router.send(parts["down"])
+            gone = [each for each in taken if "10.1.24.2" not in each]
+            until(lambda: base() == gone, "a circuit that is gone")
+            checks.same("the placement is lost", news, ["lost 1\n"])
+            line = placer.talk(placing(1, "10.0.0.2", "10.0.0.4").replace(",100,", ",50000000,"))
+            checks.true("and placed again", " route " in line and " hops=1 " not in line, line)
+            said = feed.end()
+            checks.true("the feed says which batch it was", f"ospf: batch {int(said.split('batch ')[1].split(':')[0])}: lost 1\n" in said, said)
+
+
+# ---- all
 
 
 def booked(checks, side):

@@ -7,8 +7,8 @@ import subprocess
 import tempfile
 
 from checks import TOOLS
-from feed.beside import until
-from feed.booked import booked
+from feed.beside import to_front, until
+from feed.booked import booked, placed
 from feed.played import A, A_B, B, BROKEN_DROPS, B_A, B_C, C, CHAIN_ROWS, COLLECT, C_B, HOLD, MANY_DIGITS, PAIR_ROWS, PATIENCE, QUIET, Feed
 from feed.played import going_on, row, snapshot
 
@@ -286,17 +286,6 @@ def killed(checks, side, program):
         asker.connect(ask)
         router, replies = side(), asker.makefile("r")
 
-        def started(*words):
-            """A feed, once the place of the one before is free."""
-            while True:
-                feed = Feed(router, "--hold", "1", command=("--to", updates), is_accepted=False)
-                until(lambda: feed.process.poll() is not None or router.is_waiting(), "a feed")
-                if feed.process.poll() is None:
-                    router.accept()
-                    return feed
-                if not feed.ended()[2].endswith("answered: busy\n"):
-                    raise AssertionError(feed.said.decode())
-
         def reply():
             asker.sendall(f"ask,7,{A},{C},0,1000,0x0,0x0,0x0,\n".encode())
             return replies.readline()
@@ -305,7 +294,7 @@ def killed(checks, side, program):
             """What a feed said; behind a reflector without the lines about sessions, which may need a second try."""
             return "".join(line for line in said.splitlines(True) if not side.is_reflected or "connect" not in line)
 
-        feed = started()
+        feed = to_front(router, updates)
         router.send(side.chain)
         until(lambda: " v1 " in reply(), "version 1")
         checks.same("what a feed put is answered", reply(),
@@ -313,7 +302,7 @@ def killed(checks, side, program):
         feed.process.kill()
         feed.process.wait()
         router.hang_up()
-        feed = started()
+        feed = to_front(router, updates)
         router.send(side.broken)
         until(lambda: " v1 " not in reply(), "version 2")
         checks.same("what went meanwhile isn't", reply(), "ask 7 v2 unknown-to\n")
@@ -322,7 +311,7 @@ def killed(checks, side, program):
         feed.process.kill()
         feed.process.wait()
         router.hang_up()
-        feed = started()
+        feed = to_front(router, updates)
         router.send(side.without_a)
         until(lambda: " v2 " not in reply(), "version 3")
         checks.same("a router that went meanwhile isn't", reply(), "ask 7 v3 unknown-from\n")
@@ -345,7 +334,7 @@ def killed(checks, side, program):
         asker = socket.socket(socket.AF_UNIX)
         asker.connect(ask)
         replies = asker.makefile("r")
-        feed = started()
+        feed = to_front(router, updates)
         router.send(side.pair)
         until(lambda: " v1 " in reply(), "version 1 of another server")
         checks.same("has what is there now", (reply(), lines(feed.end())), ("ask 7 v1 unknown-to\n", ""))
@@ -357,4 +346,5 @@ def scenarios(checks, side, program):
     for scenario in (started, alike, anew, refusals, restarted, trickle, unreached):
         scenario(Of(checks, side.name), side)
     booked(Of(checks, side.name), side)
+    placed(Of(checks, side.name), side, program)
     killed(Of(checks, side.name), side, program)

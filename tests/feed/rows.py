@@ -7,7 +7,7 @@ import time
 
 from feed.begun import journals, not_begun
 from feed.beside import beside_server, once, with_program, words
-from feed.booked import endless
+from feed.booked import endless, recorded_beside
 from feed.both import scenarios
 from feed.lab import lab
 from feed.played import A, A_B, B, B_A, C, COLLECT, INFINITE, NAN, PAIR, PAIR_ROWS, PATIENCE, ROUTERS, Feed
@@ -250,6 +250,6 @@ def feed(program, checks):
         return
     for part in (columns, left_out, wrapped, changes, marks, runs, streams, not_begun, journals, many, queued, endless, lab):
         part(checks)
-    for part in (with_program, beside_server, once, words):
+    for part in (with_program, beside_server, recorded_beside, once, words):
         part(program, checks)
     scenarios(checks, Router, program)
