@@ -1,6 +1,7 @@
 """A feed whose program has a book: its batches are those of the base, other programs place between them, and their lines name both the
 number of the batch and the version that is published."""
 import os
+import re
 import tempfile
 
 from feed.beside import to_front, until
@@ -20,9 +21,10 @@ def of_base(number, version, rows, *run):
 
 
 def gone_on(checks, side):
-    """A feed goes on with the base of a book that has placements. Versions are far above the numbers of its batches, and rise without it."""
+    """A feed goes on with the base of a book with placements. Versions are above the numbers of its batches, and rise without it."""
     router = side()
-    for name, version, told in (("", 40, of_base(7, 40, CHAIN_ROWS)), (", which others have raised meanwhile", 38, of_base(7, 40, CHAIN_ROWS)),
+    for name, version, told in (("", 40, of_base(7, 40, CHAIN_ROWS)),
+                                (", which others have raised meanwhile", 38, of_base(7, 40, CHAIN_ROWS)),
                                 (" of a run with a number", 40, of_base(7, 40, CHAIN_ROWS, "run 12"))):
         feed = Feed(router, version=version, told=told)
         router.send(side.broken)
@@ -67,7 +69,8 @@ def refused(checks, side):
         feed = Feed(router, version=40, told=of_base(7, 40, []))
         router.send(side.chain)
         feed.batch(f"batch 8 refused: {word}")
-        checks.same(f"{word} ends the feed", feed.ended(), (1, "", f"{going_on(40, 0, name=side.name)}{side.name}: batch 8 refused: {word}\n"))
+        checks.same(f"{word} ends the feed", feed.ended(),
+                    (1, "", f"{going_on(40, 0, name=side.name)}{side.name}: batch 8 refused: {word}\n"))
         router.hang_up()
     router = side()
     feed = Feed(router, version=40, told=of_base(7, 40, []))
@@ -93,10 +96,12 @@ def wrong(checks, side):
     feed = Feed(router, version=40, told=of_base(7, 40, PAIR_ROWS))
     router.send(side.pair + side.put(A, A_B, B, B_A, metric=9, sequence=2))
     feed.batch("base 8 v40")
-    checks.same("a version that isn't above the last", feed.ended()[2], f"{going_on(40, 2, name=side.name)}{side.name}: base 8 v40: {UNKNOWN}\n")
+    checks.same("a version that isn't above the last", feed.ended()[2],
+                f"{going_on(40, 2, name=side.name)}{side.name}: base 8 v40: {UNKNOWN}\n")
     router.hang_up()
     unknown = f"{side.name}: standard input and output: it is at version 40, and its database isn't known, for it answered: "
-    for line in ("base 7 v39", "base 7", "base 7 40", "base v40", f"base 7 v{MANY_DIGITS}", f"base {MANY_DIGITS} v40", "lost 7", "book refused: no"):
+    for line in ("base 7 v39", "base 7", "base 7 40", "base v40", f"base 7 v{MANY_DIGITS}", f"base {MANY_DIGITS} v40", "lost 7",
+                 "book refused: no"):
         feed = Feed(router, version=40, told=[line], is_accepted=False)
         checks.same(f"no base: {line[:30]}", feed.ended(), (1, "", f"{unknown}{line}\n"))
     held = "held,1,1.1.1.1,2.2.2.2,7,1,0x0,0x0,0x0,,0a00000002020202"
@@ -223,7 +228,7 @@ def recorded_beside(program, checks):
             line = placer.talk(placing(1, "10.0.0.2", "10.0.0.4").replace(",100,", ",50000000,"))
             checks.true("and placed again", " route " in line and " hops=1 " not in line, line)
             said = feed.end()
-            checks.true("the feed says which batch it was", f"ospf: batch {int(said.split('batch ')[1].split(':')[0])}: lost 1\n" in said, said)
+            checks.true("the feed says which batch it was", re.search(r"(?m)^ospf: batch \d+: lost 1$", said), said)
 
 
 # ---- all
