@@ -206,6 +206,7 @@ def kills(program, checks, room):
                 placer.bring(child, draw, timer.start)
             timer.join()
             child.wait(PATIENCE)
+            subprocess.run(["flock", os.path.join(runs.folder, "lock"), "true"], timeout=PATIENCE)  # commands of a killed script end
             child.stdin.close() if is_served else None
         phases["serving" if is_served else "starting"] += 1
     checks.same("what was told is in each beginning", wrong_ones, [])
