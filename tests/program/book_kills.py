@@ -1,9 +1,10 @@
 """Runs of `routed serve --book` that are killed: a run that begins with what is left has each line that was read.
 
-By default 20 runs are killed, with KILLS=N in the environment N: at the first writes of rows and of batches, each before it and after its
-first byte, and at drawn moments, half of them while all is written byte by byte. What is kept is at most one row ahead of the journal,
-and the journal never ahead of it. For each published version the journal has the effective database of the kept rows. The next run
-begins by `cat BEGIN KEPT | routed book --compact --accept-torn > NEXT` and `--begin NEXT`.
+By default 4 runs are killed at each point of an accepted row, and with KILLS=N in the environment N / 5: before its text is kept, in the
+middle of its text, behind it, in the middle of its batch in the journal, behind its batch, before its lines or in the middle of them, and
+behind its lines. As many are killed at drawn moments, half of them while all is written byte by byte. What is kept is at most one row ahead of the journal, and
+the journal never ahead of it. For each published version the journal has the effective database of the kept rows. The next run begins
+by `cat BEGIN KEPT | routed book --compact --accept-torn > NEXT` and `--begin NEXT`.
 """
 import collections
 import fcntl
@@ -29,9 +30,11 @@ from program.serving_book import Answers, ServingBook, ask_on, questions
 from reference import compacts, runs
 from reference.served_books import Run
 
-KILLS, ROWS = int(os.environ.get("KILLS", "20")), 150
+KILLS, ROWS = int(os.environ.get("KILLS", "20")) // 5, 150  # at each point, and the rows of a drawn stream
 SHORT = BASE + place(1) + held_row(2, 0, 30) + "release,1\n" + place(2, 3, 40) + "ask,7,1.1.1.1,2.2.2.2,0,1,0x0,0x0,0x0,\nshow,2\n" + (
     f"{DROPS}end,2,2\nrelease,2\n{BASE.replace('end,1,', 'end,3,')}") + "".join(place(name) + f"release,{name}\n" for name in range(9, 60))
+LINES, PAUSE = "/lines0", 0.005  # seconds between two requests
+WHOLE = 1 << 30  # bytes, more than any write has
 NARROW = 4096  # bytes that a pipe of lines holds
 
 
@@ -43,30 +46,94 @@ class Left:
         self.text = settled(self.kept)
         self.batches = runs.whole_batches(self.journal, accept_torn=True)
 
+    def texts(self):
+        return self.kept, self.journal, self.lines
+
+
+# ---- where a run is killed
+
+
+class Accepted:
+    """An accepted row of a run: how many writes there are to each file before its own, what is written until then, and its texts. The
+    text of a row is one write to the file of `--keep`, each batch one to the journal, and the lines of a row one to standard output."""
+
+    def __init__(self, wanted, at):
+        before = [written(step) for step in wanted.steps[:at]]
+        self.texts, self.before = written(wanted.steps[at]), ["".join(texts) for texts in zip(*before)]
+        rows, batches, lines = (sum(map(bool, texts)) for texts in zip(*before))
+        self.writes = rows, batches + wanted.first - bool(wanted.first), lines  # what a beginning publishes is some batches
+
+    def points(self, draw):
+        """Of each point: its file, the write that is the last one, how many bytes are moved then, and what is left of the run."""
+        for name, file, sizes in [("before its row is kept", 0, [0]), ("in its row", 0, [None]), ("behind its row", 0, [WHOLE]),
+                                  ("in its batch", 1, [None]), ("behind its batch", 1, [WHOLE]), ("before its lines", 2, [0, None]),
+                                  ("behind its lines", 2, [WHOLE])]:
+            size, text = draw.choice(sizes), self.texts[file]
+            size = draw.randrange(1, len(text)) if size is None else size
+            sizes = [WHOLE] * file + [size] + [0] * 2
+            yield name, (*FILES.values(), LINES)[file], self.writes[file] + 1, size, tuple(
+                front + text[:size] for front, text, size in zip(self.before, self.texts, sizes))
+
+
+def written(step):
+    """What is written of a row: to the file of `--keep`, to the journal, and to standard output."""
+    return step.kept, step.published, "".join(f"{line}\n" for line in step.lines)
+
+
+def slowly(rows):
+    """Rows of a client that asks some hundred times a second."""
+    for row in rows:
+        time.sleep(PAUSE)
+        yield row
+
+
+def drawn_run(seed):
+    """A beginning, or none, and rows."""
+    return ("", SHORT) if seed % 4 == 3 else beginnings(seed) if seed % 2 else ("", drawn_stream(seed, ROWS))
+
+
+def kills_at_points(program, checks, room):
+    """Runs that are killed at each point of a drawn row that is accepted: what is left is what was written until then."""
+    if COMPILER is None:
+        print("served books that are killed at points: skipped, there is no C compiler")
+        return
+    start, draw, refuser, said, kinds = time.monotonic(), random.Random(19), Refuser(), collections.Counter(), collections.Counter()
+    for at in range(KILLS):
+        begin, rows = drawn_run(at)
+        wanted = Run(rows, begin)
+        taken = draw.choice([number for number, step in enumerate(wanted.steps) if step.kept])
+        for point, file, number, moved_bytes, left_texts in Accepted(wanted, taken).points(draw):
+            inner, name = os.path.join(room, f"{at} {point}"), f"kill {at} of a served book {point}"
+            os.mkdir(inner)
+            env = refusing(refuser, AT=number, KILL=1, FILE=file, **({"SHORT": moved_bytes} if moved_bytes else {}))
+            run = ServingBook(program, inner, 1, begin=begin, first=wanted.first, env=env)
+            found = killed_run(run, rows, wanted, None, draw)
+            checks.same(f"what is left of {name}", found.texts(), left_texts)
+            said[point] += found.texts() == left_texts
+            judged(checks, name, wanted, begin, found)
+            goes_on(program, checks, f"after {name}", inner, wanted, begin, rows, found)
+        kinds[wanted.steps[taken].kept.rpartition("\n")[0].rpartition("\n")[2].partition(",")[0]] += 1
+    checks.same("kills of served books at each point", sorted(set(said.values())), [KILLS])
+    print(f"killed: served books {', '.join(f'{point} {count}' for point, count in said.items())}, of rows "
+          f"{', '.join(f'{kind} {count}' for kind, count in sorted(kinds.items()))}, {time.monotonic() - start:.0f} s")
+
 
 def kills_at_moments(program, checks, room):
-    """Runs that are killed at writes, or at drawn moments."""
+    """Runs that are killed at drawn moments."""
     start, draw, points = time.monotonic(), random.Random(17), collections.Counter()
     refuser = Refuser() if COMPILER else None
-    at_writes = KILLS * 3 // 5 if refuser else 0
     for at in range(KILLS):
         inner = os.path.join(room, str(at))
         os.mkdir(inner)
-        if at < at_writes:
-            refusal = {"AT": 1 + at // 4, "KILL": 1, "FILE": [*FILES.values()][at // 2 % 2], **({"SHORT": 1} if at % 2 else {})}
-            begin, rows = "", SHORT
-        else:
-            begin, rows = beginnings(at) if at % 4 < 2 else ("", drawn_stream(at, ROWS))
-            refusal = {"AT": 1, "ON": 1, "SHORT": 1} if at % 2 else {}
+        begin, rows = beginnings(at) if at % 4 < 2 else ("", drawn_stream(at, ROWS))
         wanted = Run(rows, begin)
-        length = draw.randrange(len(wanted.kept)) if at >= at_writes else None
-        env = refusing(refuser, **refusal) if refuser and refusal else dict(os.environ)
+        env = refusing(refuser, AT=1, ON=1, SHORT=1) if refuser and at % 2 else dict(os.environ)
         run = ServingBook(program, inner, 1, begin=begin, first=wanted.first, env=env)
-        left_over = killed_run(run, rows, wanted, length, draw)
-        points[judged(checks, f"kill {at}", wanted, begin, left_over)] += 1
-        goes_on(program, checks, f"after kill {at}", inner, wanted, begin, rows, left_over)
-    checks.true("runs are killed at several points", len(points) > 2 or KILLS < 10, points)
-    print(f"killed: {KILLS} served books, {', '.join(f'{what} {count}' for what, count in sorted(points.items()))}, "
+        found = killed_run(run, rows, wanted, draw.randrange(len(wanted.kept)), draw)
+        points[judged(checks, f"kill {at}", wanted, begin, found)] += 1
+        goes_on(program, checks, f"after kill {at}", inner, wanted, begin, rows, found)
+    checks.true("runs are killed at several points", len(points) > 2 or KILLS < 20, points)
+    print(f"killed: served books at {KILLS} moments, {', '.join(f'{what} {count}' for what, count in sorted(points.items()))}, "
           f"{time.monotonic() - start:.0f} s")
 
 
@@ -77,7 +144,7 @@ def killed_run(run, rows, wanted, length, draw):
     with run:
         pace = random.Random(length) if length is None or length % 3 else None
         threads = [threading.Thread(target=lambda: lines.extend(run.feed(rows.splitlines(keepends=True), wanted.steps, pace)), daemon=True),
-                   threading.Thread(target=ask_on, args=(run, 1, questions(1), done, asked), daemon=True)]
+                   threading.Thread(target=ask_on, args=(run, 1, slowly(questions(1)), done, asked), daemon=True)]
         for thread in threads:
             thread.start()
         if length is None:
@@ -214,7 +281,7 @@ def filling(number):
     return "x\n" * full.count("\n") + "".join(f"show,{name}\n" for name in names), full + "".join(map(last.format, names))
 
 
-PARTS = kills_at_moments, kills_before_a_line
+PARTS = kills_at_points, kills_at_moments, kills_before_a_line
 
 
 def book_kills(program, checks):

@@ -3,9 +3,9 @@
    REFUSE_CALL    malloc, read, write, open or thread: the kind of call that is counted
    REFUSE_AT      the call of that kind that is refused, from 1 on; 0 or nothing: none
    REFUSE_ON      if set, each later call is refused as well
-   REFUSE_SHORT   if set, a read or write moves one byte in place of failing
+   REFUSE_SHORT   how many bytes a read or write moves at most in place of failing
    REFUSE_BREAK   if set, a read or write fails as one that a signal broke off
-   REFUSE_KILL    if set, the program is killed at that read or write, with REFUSE_SHORT after it moved one byte
+   REFUSE_KILL    if set, the program is killed at that read or write, with REFUSE_SHORT after it moved so many bytes
    REFUSE_PAUSE   the milliseconds that a read or write waits in place of failing
    REFUSE_FILE    if set, only reads and writes of files whose names end so are counted
    REFUSE_COUNTS  the file that says at the program's end how many calls there were, and how many were refused
@@ -32,8 +32,8 @@ static const char *const names[] = {"", "malloc", "read", "write", "open", "thre
 static const int errors[] = {0, ENOMEM, EIO, ENOSPC, EMFILE, EAGAIN};
 
 static enum kind kind;
-static long at;
-static int goes_on, shortens, kills, pause_ms, error;
+static long at, most;
+static int goes_on, kills, pause_ms, error;
 static const char *file_name;
 static uintptr_t code_start, code_end;
 static _Atomic long calls, refused;
@@ -56,7 +56,7 @@ __attribute__((constructor)) static void start(void)
     const char *call = getenv("REFUSE_CALL"), *number = getenv("REFUSE_AT");
     at = number ? atol(number) : 0;
     goes_on = getenv("REFUSE_ON") != NULL;
-    shortens = getenv("REFUSE_SHORT") != NULL;
+    most = getenv("REFUSE_SHORT") ? atol(getenv("REFUSE_SHORT")) : 0;
     kills = getenv("REFUSE_KILL") != NULL;
     pause_ms = getenv("REFUSE_PAUSE") ? atoi(getenv("REFUSE_PAUSE")) : 0;
     file_name = getenv("REFUSE_FILE");
@@ -125,9 +125,9 @@ static ssize_t moved(long call, int is_refused, int file, const void *bytes, siz
         nanosleep(&wait, NULL);
         return syscall(call, file, bytes, length);
     }
-    if (!shortens && !kills)
+    if (!most && !kills)
         return -1;
-    ssize_t count = shortens ? syscall(call, file, bytes, length > 1 ? 1 : length) : 0;
+    ssize_t count = most ? syscall(call, file, bytes, (long)length < most ? length : most) : 0;
     if (kills)
         syscall(SYS_kill, getpid(), SIGKILL);
     return count;

@@ -7,7 +7,7 @@ import re
 import threading
 import time
 
-from program.serving import AT, PATIENCE, Serving
+from program.serving import AT, PATIENCE, Lines, Serving
 from reference import runs
 from reference.formats import records
 
@@ -26,12 +26,19 @@ def begun_at(path, rows):
 
 
 class ServingBook(Serving):
-    """A run with clients, and rows that it begins with. `told` is the version that was read last, and `first` the one before that."""
+    """A run with clients, and rows that it begins with. `told` is the version that was read last, and `first` the one before that. The
+    lines of the updates come by a pipe whose name is `lines0`."""
 
     def __init__(self, program, room, clients, *more, begin="", first=0, **how):
         self.keep, self.told = os.path.join(room, "keep"), first
         words = ["--book", "--keep", self.keep, *begun_at(os.path.join(room, "begin"), begin)]
-        super().__init__(program, room, clients, *words, *more, **how)
+        name = os.path.join(room, "lines0")
+        os.mkfifo(name)
+        lines = Lines(os.open(name, os.O_RDONLY | os.O_NONBLOCK))
+        with open(name, "wb") as written:
+            os.set_blocking(lines.file, True)
+            super().__init__(program, room, clients, *words, *more, stdout=written, **how)
+        self.lines[0] = lines
 
     def next_line(self):
         """The next line of the updates. What it says of a version is known then."""
