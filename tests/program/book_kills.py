@@ -43,6 +43,10 @@ class Left:
 
     def __init__(self, run, lines, asked):
         self.lines, (self.kept, self.journal), self.asked = "".join(lines), run.texts(), asked
+        self.settle()
+
+    def settle(self):
+        """Finds what is whole in the files."""
         self.text = settled(self.kept)
         self.batches = runs.whole_batches(self.journal, accept_torn=True)
 
@@ -161,23 +165,30 @@ def killed_run(run, rows, wanted, length, draw):
         return Left(run, lines, asked)
 
 
+def rules(wanted, begin, found):
+    """What has to hold of what is left of a run, wherever it ended: its words, whether it holds, and what is seen."""
+    whole, count = Run(found.text, begin), len(found.batches)
+    yield "what is kept are rows of the run", (wanted.kept.startswith(found.kept) and whole.kept == found.text
+                                               and whole.status == 0), found.kept[-200:]
+    yield "the journal isn't ahead of what is kept", whole.journal.startswith(found.journal), found.journal[-200:]
+    published, effective = ([(it.links, it.marks) for it in some] for some in (runs.publish(found.batches)[0],
+                                                                               whole.networks[:count + 1]))
+    yield "the journal has the databases of the kept rows", published == effective, count
+    is_torn, lacks, is_begun = found.kept != found.text, len(whole.networks) - 1 - count, count >= whole.first
+    yield "what is kept is at most one row ahead", lacks in (0, 1) if is_begun else found.kept == "", (lacks, is_torn)
+    yield "a row is kept behind the batch of the row before", not is_torn or found.journal == whole.journal, is_torn
+    allowed = lines_within(wanted, len(found.kept), len(found.journal))
+    yield "lines are of rows that are kept and published", (allowed.startswith(found.lines)
+                                                            and wanted.lines.startswith(allowed)), (allowed[-200:], found.lines[-200:])
+
+
 def judged(checks, name, wanted, begin, found):
     """What may be left of a run, by the rules. Answers between which steps it was killed."""
-    whole, count = Run(found.text, begin), len(found.batches)
-    checks.true(f"what is kept after {name} are rows of the run", wanted.kept.startswith(found.kept) and whole.kept == found.text
-                and whole.status == 0, found.kept[-200:])
-    checks.true(f"the journal after {name} isn't ahead of what is kept", whole.journal.startswith(found.journal), found.journal[-200:])
-    published = runs.publish(found.batches)[0]
-    checks.same(f"the databases of the journal after {name}", [(it.links, it.marks) for it in published],
-                [(it.links, it.marks) for it in whole.networks[:count + 1]])
-    is_torn, lacks, is_begun = found.kept != found.text, len(whole.networks) - 1 - count, count >= whole.first
-    checks.true(f"what is kept after {name} is at most one row ahead", lacks in (0, 1) if is_begun else found.kept == "", (lacks, is_torn))
-    checks.true(f"a row is kept after {name} behind the batch of the row before", not is_torn or found.journal == whole.journal, is_torn)
-    allowed = lines_within(wanted, len(found.kept), len(found.journal))
-    checks.true(f"what was read before {name} is kept and published", allowed.startswith(found.lines) and wanted.lines.startswith(allowed),
-                (allowed[-200:], found.lines[-200:]))
-    Answers(whole.networks).judge(checks, f"before {name}", found.asked, count)
-    if is_torn:
+    for words, holds, seen in rules(wanted, begin, found):
+        checks.true(f"{words}: {name}", holds, seen)
+    whole = Run(found.text, begin)
+    Answers(whole.networks).judge(checks, f"before {name}", found.asked, len(found.batches))
+    if found.kept != found.text:
         return "in a kept row"
     if found.journal != whole.journal:
         return "before a batch" if found.journal == "".join(runs.batch_text(*it) for it in enumerate(found.batches, 1)) else "in a batch"

@@ -17,18 +17,18 @@ import time
 if __name__ == "__main__":
     sys.path.insert(0, os.path.dirname(os.path.dirname(os.path.abspath(__file__))))
 from checks import Checks
-from program import book_served_files
+from program import book_served_files, held_books, known_books
 from program.compact_books import batches_of, gone_on, latin, moved
-from program.drawn_books import drawn_stream
+from program.drawn_books import drawn_stream, kinds_of
 from program.kept_books import Kept
-from program.known_books import BASE, status_of
+from program.known_books import BASE, status_of, worked
 from program.known_served_books import full, known
 from program.served_calls import Served, texts_of, wanted_of
 from reference import compacts, runs, wrong
 from reference.changes import changed
 from reference.served_books import Run
 
-STREAMS, ROWS, CHANGED = 40, 80, 40  # drawn streams, the rows of each, and streams with changed bytes
+VERSIONS, ROWS = int(os.environ.get("ROWS", "2500")), 80  # accepted rows of drawn streams, and the rows of each stream
 
 
 # ---- what is known
@@ -45,6 +45,21 @@ def served_known(program, checks):
     for rows, size, lines, kept, journal in full():
         wanted = 2, *map(latin, (lines, "", kept, journal))
         checks.same(f"a book whose files take {size} bytes: reference", wanted_of(rows, None, size, size), wanted)
+
+
+def served_rows(program, checks):
+    """The streams whose lines in a book are known, such as bad rows of each kind, have these lines in a server's book, too."""
+    refused = 0
+    with tempfile.TemporaryDirectory() as room:
+        served = Served(program, room) if program else None
+        for name, rows, lines in [*worked(), *known_books.known(), *held_books.known()]:
+            if len(rows) < 100_000:
+                wanted = wanted_of(rows)
+                checks.same(f"lines of a served book: {name}: reference", wanted[:2], (status_of(lines), latin(lines)))
+                refused += lines.count(" refused: ")
+                if served:
+                    checks.same(f"a served book: {name}", served.run(rows), wanted)
+    checks.true("rows of a served book are refused", refused > 500, refused)
 
 
 def networks_of(checks, name, run):
@@ -72,27 +87,33 @@ def served_drawn(program, checks):
     start, said = time.monotonic(), collections.Counter()
     with tempfile.TemporaryDirectory() as room:
         served = Served(program, room) if program else None
-        for seed in range(STREAMS):
+        while said["versions"] < VERSIONS:
+            seed = said["rounds"]
+            said["rounds"] += 1
             compared(served, checks, f"drawn {seed}", drawn_stream(seed, ROWS), None, said)
             begin, rows = beginnings(seed)
             compared(served, checks, f"drawn {seed} behind a beginning", rows, begin, said)
-        for seed in range(CHANGED):
             rows, names = changed(random.Random(f"served {seed}"), drawn_stream(seed, ROWS // 2))
             compared(served, checks, f"changed {seed} ({', '.join(names)})", rows, None, said)
             begin, names = changed(random.Random(f"begun {seed}"), Kept(drawn_stream(seed, ROWS // 2)).text.decode("latin-1"))
             compared(served, checks, f"behind a changed beginning {seed} ({', '.join(names)})", BASE, begin, said)
-    few = {what: said[what] for what, least in WANTED.items() if said[what] < least}
+    few = {what: said[what] for what, least in WANTED.items() if said[what] < least * VERSIONS // 2500}
     checks.same("what drawn runs of served books say too seldom", few, {})
     print(f"served books: {', '.join(f'{what} {count:,}' for what, count in sorted(said.items()))}, {time.monotonic() - start:.0f} s")
 
 
-WANTED = {"versions": 2000, "batches without changes": 20, "batches with more than one change": 500, "beginnings": STREAMS,
-          "beginnings with over lines": 10, "refused beginnings": 10, "refused rows": 500}
+WANTED = {"batches without changes": 20, "batches with more than one change": 500, "beginnings": 35, "beginnings with over lines": 10,
+          "refused beginnings": 10, "refused rows": 500, "placed": 300, "placed again": 200, "held": 300, "base": 200, "released": 100,
+          "none, and one stays": 50, "offered: route": 50, "show": 50, "left": 50, "ask": 100, "lost": 50, "over": 50,
+          "over by a held row": 100, "place refused: twice": 3, "release refused: absent": 30, "held refused: same-id": 30,
+          "held refused: twice": 5, "row refused: route": 10}
 
 
 def compared(served, checks, name, rows, begin, said):
     """The program writes what the reference does, and the reference's journal has its databases."""
-    run, rows = Run(rows, begin or ""), rows.splitlines(keepends=True)
+    run = Run(rows, begin or "")
+    said.update(kinds_of(rows, run.lines.splitlines()))
+    rows = rows.splitlines(keepends=True)
     networks_of(checks, name, run)
     said["versions"] += len(run.networks) - 1 - run.first
     said["batches without changes"] += sum(step.published.startswith("end,") for step in run.steps)
@@ -142,12 +163,12 @@ def served_told_apart(_, checks, seeds=0):
 
 
 def book_served(program, checks):
-    checks.parts((served_known, served_drawn, served_snapshots, *book_served_files.PARTS, served_told_apart), program, checks)
+    checks.parts((served_known, served_rows, served_drawn, served_snapshots, *book_served_files.PARTS, served_told_apart), program, checks)
 
 
 def main():
     checks = Checks()
-    checks.parts((served_known, served_drawn, served_snapshots), None, checks)
+    checks.parts((served_known, served_rows, served_drawn, served_snapshots), None, checks)
     served_told_apart(None, checks, 10)
     checks.end()
 

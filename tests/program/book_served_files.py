@@ -66,6 +66,13 @@ def served_files(program, checks):
                 path = f"{room}/none/file"
                 checks.same(f"serve --book: a file of --{name} in no folder {words}", serve(*words, **{name: path}),
                             ((3, b"", said.format(path, "No such file or directory (os error 2)").encode() + STOPPED), {}))
+        twice = "routed: a file is named twice: {}\n".format
+        checks.same("serve --book: the file of --keep is the journal by another name", serve(journal=f"{room}/./new"),
+                    ((1, b"", twice(new).encode()), {}))
+        with open(there, "w", encoding="ascii") as file:
+            file.write(BASE)
+        checks.same("serve --book: the file of --keep is the beginning", serve(keep=there, begin=there),
+                    ((1, b"", twice(there).encode()), {"there": latin(BASE)}))
         for path in (f"{room}/none", room):
             status, out, err = serve(begin=path)[0]
             checks.true(f"serve --book: a beginning that can't be read: {os.path.basename(path)}", (status, out) == (3, b"")

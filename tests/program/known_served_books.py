@@ -80,6 +80,17 @@ def moves():
         f"base 1 v1\nplace 1 v2 {DIRECT}\nlost 1\nbase 2 v3\nbase 3 v4\nreleased 1 v5\n"), (
         f"{WRITTEN}{place(1, 3, 7)}{DROPS}end,2,2\n{FIRST}{SECOND}end,3,2\nrelease,1\n"), (
         f"{WRITTEN}{put(left(993, 3))}end,2,1\n{DROPS}end,3,2\n{put(left(993, 3))}{SECOND}end,4,2\n{FIRST}end,5,1\n")
+    turned = "1.1.1.1,10.0.12.1,3.3.3.3,10.0.13.3", "3.3.3.3,10.0.13.3,1.1.1.1,10.0.12.1"
+    rows = WRITTEN + place(1, 3, 7) + DROPS + f"end,2,2\n{put(FREE, turned[0])}{put(FREE, turned[1])}end,3,2\n"
+    yield "a release after its link came back to another router", rows + "release,1\n", (
+        f"base 1 v1\nplace 1 v2 {DIRECT}\nlost 1\nbase 2 v3\nbase 3 v4\nreleased 1 v5\n"), rows + "release,1\n", (
+        f"{WRITTEN}{put(left(993, 3))}end,2,1\n{DROPS}end,3,2\n{put(left(993, 3), turned[0])}{put(FREE, turned[1])}end,4,2\n"
+        f"{put(FREE, turned[0])}end,5,1\n")
+    again = [place(1, bandwidth=900), place(1, bandwidth=950), place(1, 0, 1000)]
+    yield "a placing along links whose bandwidth it holds", BASE + "".join(again) + place(1, 0, 1001) + place(2), (
+        f"base 1 v1\nplace 1 v2 {DIRECT}\nplace 1 v3 {DIRECT}\nplace 1 v4 {DIRECT}\nplace 1 v4 none\nplace 2 v4 none\n"), (
+        WRITTEN + "".join(again)), WRITTEN + "".join(f"{put(left(figure, hold))}end,{at},1\n" for at, (figure, hold) in enumerate(
+            ((100, 7), (50, 7), (0, 0)), 2))
     both = FIRST + SECOND + circuit(BESIDE, 20) + "end,1,4\n"
     dearer = put(FREE, metric=30) + "end,2,1\n"
     yield "from one link to another", both + place(1, bandwidth=5) + dearer + place(1, bandwidth=6) + "release,1\n", (

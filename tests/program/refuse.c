@@ -32,7 +32,8 @@ static const char *const names[] = {"", "malloc", "read", "write", "open", "thre
 static const int errors[] = {0, ENOMEM, EIO, ENOSPC, EMFILE, EAGAIN};
 
 static enum kind kind;
-static long at, most;
+static long at;
+static size_t most;
 static int goes_on, kills, pause_ms, error;
 static const char *file_name;
 static uintptr_t code_start, code_end;
@@ -127,7 +128,7 @@ static ssize_t moved(long call, int is_refused, int file, const void *bytes, siz
     }
     if (!most && !kills)
         return -1;
-    ssize_t count = most ? syscall(call, file, bytes, (long)length < most ? length : most) : 0;
+    ssize_t count = most ? syscall(call, file, bytes, length < most ? length : most) : 0;
     if (kills)
         syscall(SYS_kill, getpid(), SIGKILL);
     return count;

@@ -26,12 +26,13 @@ def changes_of(before, after, changes):
 
 
 class Server:
-    """A run that begins with the rows of a book, and how many bytes its two files take. `networks` are the effective databases from
-    version 0 on, those of a beginning too; `first` is the first version, and `begun` are the lines before those of any row."""
+    """A run that begins with the rows of a book, or with a book, and how many bytes its two files take. `networks` are the effective
+    databases from version 0 on, those of a beginning too; `first` is the first version, and `begun` are the lines before those of any
+    row."""
 
     def __init__(self, begin="", room=math.inf, journal_room=math.inf):
         self.room, self.journal_room, self.networks, self.status = room, journal_room, [Network()], 0
-        self.book, line, _ = compacts.whole(begin)
+        self.book, line, _ = (begin, "", "") if isinstance(begin, books.Book) else compacts.whole(begin)
         if self.book is None:
             self.status, self.begun, self.snapshot = 2, [line], ""
             return
