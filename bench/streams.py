@@ -1,11 +1,11 @@
-"""Streams of rows and lines that bench/serve writes and reads: pipes, connections to sockets, and direct connections."""
+"""Streams of rows and lines that bench/serve and bench/book write and read: pipes, connections to sockets, and direct connections."""
 import os
 import socket
 import sys
 
 
 def stop(text):
-    sys.exit(f"bench/serve: {text}")
+    sys.exit(f"bench/{os.path.basename(sys.argv[0])}: {text}")
 
 
 class Stream:
