@@ -2,9 +2,9 @@
 
 By default 4 runs are killed at each point of an accepted row, and with KILLS=N in the environment N / 5: before its text is kept, in the
 middle of its text, behind it, in the middle of its batch in the journal, behind its batch, before its lines or in the middle of them, and
-behind its lines. As many are killed at drawn moments, half of them while all is written byte by byte. What is kept is at most one row ahead of the journal, and
-the journal never ahead of it. For each published version the journal has the effective database of the kept rows. The next run begins
-by `cat BEGIN KEPT | routed book --compact --accept-torn > NEXT` and `--begin NEXT`.
+behind its lines. As many are killed at drawn moments, half of them while all is written byte by byte. What is kept is at most one row
+ahead of the journal, and the journal never ahead of it. For each published version the journal has the effective database of the kept
+rows. The next run begins by `cat BEGIN KEPT | routed book --compact --accept-torn > NEXT` and `--begin NEXT`.
 """
 import collections
 import fcntl
@@ -187,7 +187,8 @@ def judged(checks, name, wanted, begin, found):
     for words, holds, seen in rules(wanted, begin, found):
         checks.true(f"{words}: {name}", holds, seen)
     whole = Run(found.text, begin)
-    Answers(whole.networks).judge(checks, f"before {name}", found.asked, len(found.batches))
+    Answers(whole.networks).judge(checks, f"before {name}", found.asked,
+                                  min(len(found.batches), len(whole.networks) - 1))
     if found.kept != found.text:
         return "in a kept row"
     if found.journal != whole.journal:
@@ -227,9 +228,9 @@ def goes_on(program, checks, name, room, wanted, begin, rows, found):
     status, text = compacts.compact(latin(begin + found.kept), True)
     checks.same(f"the next beginning {name}", (ran.returncode, ran.stdout, ran.stderr), (status, text.encode(), b""))
     steps = wanted.steps[1:]
-    read = 0
-    while "".join(step.kept for step in steps[:read]) != found.text:
-        read += 1
+    read = next((at for at in range(len(steps) + 1) if "".join(step.kept for step in steps[:at]) == found.text), None)
+    if read is None:  # a check of what is kept has failed
+        return
     unkept = rows_again(rows.splitlines(keepends=True), [(step.lines, latin(step.kept)) for step in steps], read)[1].decode("latin-1")
     again = moved(unkept, batches_of(text) - batches_of(begin + found.text))
     asked = "".join(f"show,{at.request['id']}\n" for at in Run("", text).server.book.placements)

@@ -25,7 +25,7 @@ from program.known_books import BASE, DIRECT, held_row, offer, place
 from program.known_compacts import WRITTEN
 from program.known_served_books import left, put
 from program.served_calls import Served, texts_of
-from reference import books, compacts, formats, runs
+from reference import books, compacts, runs
 from reference.served_books import Run
 
 FULL_SIZE = VERSIONS // 50  # rows at full size

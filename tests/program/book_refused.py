@@ -1,6 +1,6 @@
 """Runs of `routed serve --book` while the C library refuses calls, each in turn: memory at each allocation, reads, writes, opens, threads.
 
-A run ends whole, says which file fails, or ends stopped. Whatever is refused, what is kept is at most one row ahead of the journal, each
+With ROWS=10000 in the environment, or more, drawn rows are tried, too. A run ends whole, says which file fails, or ends stopped. Whatever is refused, what is kept is at most one row ahead of the journal, each
 line that was read is of a row that is kept and published, and a client's lines are right as far as they go.
 """
 import os
@@ -9,10 +9,10 @@ import shutil
 import time
 
 from program.book_kills import Left, rules
-from program.book_served import beginnings
+from program.book_served import VERSIONS, beginnings
 from program.compact_books import latin
 from program.drawn_books import drawn_stream
-from program.known_books import BASE, DIRECT, MASKS, held_row, offer, place
+from program.known_books import BASE, MASKS, held_row, offer, place
 from program.known_served_books import DROPS
 from program.refusal import COMPILER, Refuser, each
 from program.refused import CAUSES, REFUSALS
@@ -23,6 +23,7 @@ from reference.served_books import Run
 ASKS = [f"ask,{name},1.1.1.1,2.2.2.2,7,{bandwidth},{MASKS}," for name, bandwidth in enumerate((1, 100, 995))] + [
     f"ask,9,10.0.0.0,10.0.0.1,3,100,{MASKS},"]
 SHORT = BASE + place(1) + held_row(2, 0, 30) + offer(3) + "release,1\nrelease,1\n" + place(2, 3, 40) + f"{DROPS}end,2,2\nrelease,2\n"
+MANY = 10_000  # accepted rows of drawn streams, from which on drawn rows are tried
 FAULT = rb"routed: (keep|journal) /\S+: write: (No space left on device \(os error 28\)|Interrupted system call \(os error 4\))\n"
 CLIENT = rb"routed: client 1: (out of memory|no thread|no entry|/\S+: a (read|write|flush) failed)\n"
 
@@ -83,8 +84,8 @@ class Calls:
             return None if is_whole and is_answered and not ran.err else "a run of which nothing is refused isn't as ever"
         if not self.are_right(found):
             return "a client's lines aren't right"
-        told, is_stopped, is_mute = self.told(ran.err, flags), ran.status == 3, flags == ("write", "on") and not ran.err
-        if not told and not is_mute:
+        is_stopped, is_mute = ran.status == 3, flags == ("write", "on") and not ran.err
+        if not self.told(ran, flags) and not is_mute:
             return "what is said of it isn't right"
         if not is_stopped and not is_answered and b"client 1" not in ran.err:
             return "a client isn't answered"
@@ -92,16 +93,17 @@ class Calls:
             return None
         cut = self.cut(found)
         if flags[0] == "write" and cut and (found.lines == cut.lines or is_stopped and cut.lines.startswith(found.lines)):
-            return None if is_stopped or ran.status == 2 else "a run of a file that fails hasn't status 2"
+            is_named = ran.status == 2 and re.search(FAULT, ran.err)
+            return None if is_stopped or is_named else "a file that fails isn't named, or the status isn't 2"
         if not is_stopped:
             return "a run that isn't whole isn't stopped"
         return next((words for words, holds, _ in rules(wanted, self.begin, found) if not holds), None)
 
-    def told(self, err, flags):
-        """Whether a run names each call that failed, and says that it is stopped only at the end."""
+    def told(self, ran, flags):
+        """Whether a run says no more than which calls failed, and at the end that it is stopped, if it is."""
         cause = CAUSES["break" if "break" in flags else flags[0]]
         some = b"(" + b"|".join((cause, CLIENT, *[FAULT] * (flags[0] == "write"))) + b")*"
-        return re.fullmatch(some + b"(routed: stopped\n)?", err) is not None
+        return re.fullmatch(some + b"routed: stopped\n" * (ran.status == 3), ran.err) is not None
 
     def cut(self, found):
         """The run whose files take what is in them, if there is one."""
@@ -112,12 +114,12 @@ class Calls:
         return cut if (cut.kept, cut.journal) == (found.kept, found.journal) else None
 
     def are_right(self, found):
-        """Whether the client's lines are the reference's at versions that don't fall."""
-        least = 0
+        """Whether the client's lines are the reference's at versions that don't fall, from the beginning's to the last one."""
+        least = self.wanted.first
         for _, row, line in found.asked:
             named = AT.match(line)
             version = int(named[1]) if named else -1
-            if not least <= version < len(self.wanted.networks) or line != f"{self.answers.at(version, row)}\n":
+            if not least <= version <= len(found.batches) or line != f"{self.answers.at(version, row)}\n":
                 return False
             least = version
         return not found.replies or found.replies.endswith("\n") or found.ran.err != b""
@@ -129,11 +131,11 @@ def refused_calls(program, checks):
         print("refused calls of a served book: skipped, there is no C compiler")
         return
     start, refuser, tried = time.monotonic(), Refuser(), {flags: 0 for flags in REFUSALS}
-    room = refuser.room.name
-    begin, rows = beginnings(1)
-    for run in [Calls(program, room, "short", SHORT), Calls(program, room, "begun", SHORT.replace("end,2,", "end,3,")[len(BASE):],
-                                                           BASE + place(7) + "end,2,0\n"),
-                Calls(program, room, "drawn", drawn_stream(2, 40)), Calls(program, room, "drawn-begun", rows, begin)]:
+    streams = [("short", SHORT, ""), ("begun", SHORT.replace("end,2,", "end,3,")[len(BASE):], BASE + place(7) + "end,2,0\n")]
+    if VERSIONS >= MANY:
+        streams += [("drawn", drawn_stream(2, 40), ""), ("drawn-begun", *beginnings(1)[::-1])]
+    for name, rows, begin in streams:
+        run = Calls(program, refuser.room.name, name, rows, begin)
         for flags in REFUSALS:
             count, faults = each(lambda number: run.judge(refuser, number, flags))
             checks.same(f"a served book, {run.name}, while calls are refused {flags}", faults, [])
