@@ -1,7 +1,8 @@
 """Runs of `routed serve --book` while the C library refuses calls, each in turn: memory at each allocation, reads, writes, opens, threads.
 
-With ROWS=10000 in the environment, or more, drawn rows are tried, too. A run ends whole, says which file fails, or ends stopped. Whatever is refused, what is kept is at most one row ahead of the journal, each
-line that was read is of a row that is kept and published, and a client's lines are right as far as they go.
+A run ends whole, says which file fails, or ends stopped. Whatever is refused, what is kept is at most one row ahead of the journal, each
+line that was read is of a row that is kept and published, and a client's lines are right as far as they go. With ROWS=10000 in the
+environment, or more, drawn rows are tried, too.
 """
 import os
 import re
