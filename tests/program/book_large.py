@@ -90,7 +90,7 @@ def large_batch(program, checks):
     last = stream([*changes, f"end,5,{PUTS}", *more])
     run = Run(last, book)
     said = kinds_of(last, run.lines.splitlines())
-    checks.true("placements count more than links have, and many are lost", min(said["over"], said["lost"]) > 1000, said)
+    checks.true("placements count more than links have, and many are lost", min(said["over"], said["lost"]) > 500, said)
     if program:
         with tempfile.TemporaryDirectory() as room:
             checks.same("a batch of the most puts over many placements", Served(program, room).run(last, begin), texts_of(run))
