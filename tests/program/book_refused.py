@@ -26,6 +26,7 @@ ASKS = [f"ask,{name},1.1.1.1,2.2.2.2,7,{bandwidth},{MASKS}," for name, bandwidth
 SHORT = BASE + place(1) + held_row(2, 0, 30) + offer(3) + "release,1\nrelease,1\n" + place(2, 3, 40) + f"{DROPS}end,2,2\nrelease,2\n"
 MANY = 10_000  # accepted rows of drawn streams, from which on drawn rows are tried
 FAULT = rb"routed: (keep|journal) /\S+: write: (No space left on device \(os error 28\)|Interrupted system call \(os error 4\))\n"
+BEGIN = rb"routed: begin /\S+: (open: Too many open files \(os error 24\)|read: Input/output error \(os error 5\))\n"
 CLIENT = rb"routed: client 1: (out of memory|no thread|no entry|/\S+: a (read|write|flush) failed)\n"
 
 
@@ -103,7 +104,7 @@ class Calls:
     def told(self, ran, flags):
         """Whether a run says no more than which calls failed, and at the end that it is stopped, if it is."""
         cause = CAUSES["break" if "break" in flags else flags[0]]
-        some = b"(" + b"|".join((cause, CLIENT, *[FAULT] * (flags[0] == "write"))) + b")*"
+        some = b"(" + b"|".join((cause, CLIENT, BEGIN, *[FAULT] * (flags[0] == "write"))) + b")*"
         return re.fullmatch(some + b"routed: stopped\n" * (ran.status == 3), ran.err) is not None
 
     def cut(self, found):
