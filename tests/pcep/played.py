@@ -52,7 +52,7 @@ class Front:
     """What a session needs of the front: asks are answered by the reference."""
 
     def __init__(self, folder, sids=None, srlgs=None, **options):
-        self.srlgs, self.asked = srlgs, []  # and the rows that were asked
+        self.srlgs, self.placements, self.asked = srlgs, None, []  # and the rows that were asked
         self.time, self.said, self.counted, self.held, self.laters = 0.0, [], {}, None, []
         self.options = argparse.Namespace(stateful=True, gain=0, calm=0, group=0, reopen=False, initiate=None, mark=None, messages=0,
                                           most_lsps=4096)

@@ -9,6 +9,7 @@ from ..model.pairs import constraints_of
 from ..model.rows import Reply, Request
 from ..net.loop import Owner
 from . import wire
+from .counting import AWAY
 from .exclusions import TooMany, Unavailable
 from .protocol import KIND, Fault, SessionFront
 from .requests import MOST_OBJECTS, UNAVAILABLE, UNKNOWN_FROM, UNKNOWN_TO, VECTORS, Asked, no_path, number_of, path, requests_of
@@ -85,6 +86,10 @@ class Answers:
         return asked
 
     def ask(self, asked: Asked) -> None:
+        if self.is_uncounted(asked):
+            self.keep_vain(asked)
+            self.finish(asked, *self.unavailable(asked, AWAY))
+            return
         try:
             asked.sent = self.session.question(asked.request, asked.setup_type)
         except Unavailable as fault:
@@ -119,7 +124,15 @@ class Answers:
             found = self.refused(asked, fault)
         self.finish(asked, *found)
 
+    def is_uncounted(self, asked: Asked) -> bool:
+        """Whether the LSP of a path couldn't be counted now."""
+        return self.session.lsps.counting.is_on(asked.setup_type) and not self.session.lsps.counting.book.is_known
+
     def ask_pair(self, both: list[Asked], svec: Svec) -> None:
+        if self.is_uncounted(both[0]):
+            for asked in [asked for asked in both if asked in self.pending]:
+                self.finish(asked, *self.unavailable(asked, AWAY))
+            return
         for asked in both:
             asked.is_of_pair = True
             asked.sent = self.session.question(asked.request, asked.setup_type)  # it excludes nothing

@@ -18,10 +18,10 @@ class Census:
         self.pccs = pccs
         self.left: list[str] | None = None  # the PCCs whose LSPs aren't counted yet
         self.begin()
-        self.ours, self.lost, self.faults, self.by_pcc = self.counts
+        self.ours, self.lost, self.uncounted, self.faults, self.by_pcc = self.counts
 
     def begin(self) -> None:
-        self.counts: tuple[int, int, dict[str, int], dict[str, int]] = (0, 0, dict.fromkeys(FAULTS, 0), {})
+        self.counts: tuple[int, int, int, dict[str, int], dict[str, int]] = (0, 0, 0, dict.fromkeys(FAULTS, 0), {})
 
     def go_on(self) -> bool:
         """Counts the LSPs of one more PCC. Whether all are counted now."""
@@ -30,18 +30,19 @@ class Census:
             self.begin()
         pcc = self.pccs.get(self.left.pop()) if self.left else None
         if pcc:
-            ours, lost, faults, by_pcc = self.counts
+            ours, lost, uncounted, faults, by_pcc = self.counts
             before = ours
             for lsp in pcc.session.lsps.all.values():
                 ours += lsp.is_ours()
                 lost += lsp.is_lost
+                uncounted += bool(lsp.uncounted)
                 for fault in lsp.faults():
                     faults[fault] += 1
             name = pcc.peer if len(by_pcc) < MOST_PCCS else "other"
             by_pcc[name] = by_pcc.get(name, 0) + ours - before
-            self.counts = ours, lost, faults, by_pcc
+            self.counts = ours, lost, uncounted, faults, by_pcc
         if self.left:
             return False
         self.left = None
-        self.ours, self.lost, self.faults, self.by_pcc = self.counts
+        self.ours, self.lost, self.uncounted, self.faults, self.by_pcc = self.counts
         return True

@@ -4,7 +4,8 @@ A PCC's request becomes one `ask` row, and its reply line a path or NO-PATH. Wha
 its own. With --stateful, LSPs that PCCs delegate are asked again at each version, and moved where their best route is
 another one. docs/run/PCEP.md has what is taken from where, and what is refused.
 
-Nothing is reserved: two LSPs may be placed on the same bandwidth. There is no sign-on but TCP-MD5 (--keys).
+With --placements the server's book counts LSPs by segment routing. Nothing else is reserved: other LSPs may be placed on the same bandwidth.
+There is no sign-on but TCP-MD5 (--keys).
 
 `ready` is printed once PCCs may connect. SIGHUP reads the files of --initiate and --allow again, SIGTERM and SIGINT end it: PCCs keep their
 LSPs. The status is 0 then, 2 where a word of the command line is refused, 3 where a socket or a file can't be had.
@@ -60,6 +61,8 @@ def main(given: list[str] | None = None) -> int:
                        help="links of a segment routing path are in this group")
     words.add_argument("--srlgs", metavar="FILE",
                        help="SRLGs of links, as feed --srlgs or a planner writes them: XROs may name them; needs --journal and --watch")
+    words.add_argument("--placements", type=Endpoint, metavar="PLACE",
+                       help="where listen takes placements: LSPs by segment routing are counted; needs --sids and --stateful")
     words.add_argument("--stateful", action="store_true", help="take LSPs that are delegated; needs --watch")
     words.add_argument("--journal", metavar="FILE", help="that of listen, or its folder: by it a route that still serves is known")
     words.add_argument("--gain", type=number(0, 100, float), default=0, metavar="PERCENT",
@@ -88,6 +91,8 @@ def main(given: list[str] | None = None) -> int:
         words.error("--mark needs a PREFIX and --initiate")
     if options.require_keys and not options.keys:
         words.error("--require-keys needs --keys")
+    if options.placements and not (options.sids and options.stateful):
+        words.error("--placements needs --sids and --stateful")
     if options.group and not options.sids:
         words.error("--sid-group needs --sids")
     if (options.initiate or options.reopen) and not options.watch or options.initiate and not options.stateful:

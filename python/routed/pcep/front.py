@@ -21,13 +21,15 @@ from ..net.stream import Stream
 from . import wire
 from .admission import Admission
 from .census import Census
+from .counting import Counting
+from .displaced import Displaced
 from .keys import set_key
 from .network import Network
 from .pcc import Pcc
 from .protocol import Link
 from .replies import Replies
 from .requests import Request
-from .session import UP, setup_types, stateful
+from .session import UP, Session, setup_types, stateful
 from .sids import Sids
 from .srlgs import Srlgs
 from .wanted import by_pcc, wanted
@@ -36,8 +38,7 @@ from .wanted import by_pcc, wanted
 MOST_VALUES = 256  # values of a figure's label: PCCs choose some of them
 UPDATES = "accepted", "refused", "unanswered"  # what becomes of one
 WORDS = "ask", "except", "pair"  # of rows and lines that are kept, each in files of its own
-
-
+VERSIONS_APART = 0.2  # seconds, at least, from one version that PCCs' sides are told of to the next where a book counts LSPs
 DIGITS = 6  # of a run's number, at most
 
 
@@ -63,8 +64,12 @@ class Front:
         self.server = Server(self.loop, options.ask, options.watch, self, options.connections, options.ask_seconds,
                              lambda: bool(self.files))
         self.slices = Slices(self.loop, self.ask)
+        self.displaced = Displaced(self, options.placements) if options.placements else None
+        self.placements = self.displaced.book if self.displaced else None
+        self.is_told = False  # PCCs' sides are told of a version soon
         self.number_of_run: int | None = None
-        self.figures = figures = Figures()
+        self.figures: Figures = Figures()
+        figures = self.figures
         figures.gauge("routed_pcep_sessions", "Sessions that are up.",
                       lambda: sum(pcc.session.state == UP for pcc in self.pccs.values()))
         figures.gauge("routed_pcep_lsps", "Delegated LSPs.", lambda: self.census.ours)
@@ -77,6 +82,10 @@ class Front:
         figures.gauge("routed_pcep_connected", "Whether the server is there.", lambda: not self.is_away)
         figures.gauge("routed_pcep_journal_followed", "Whether the journal yields the server's answers.",
                       lambda: None if self.network.tail is None else not self.network.is_doubted)
+        figures.gauge("routed_pcep_placements_connected", "Whether the book is there that LSPs are counted in.",
+                      lambda: self.placements.is_known if self.placements else None)
+        figures.gauge("routed_pcep_lsps_uncounted", "LSPs by segment routing that the book should have, and lacks.",
+                      lambda: self.census.uncounted if self.placements else None)
         figures.gauge("routed_pcep_version", "The newest version that is known.", lambda: self.version)
         figures.counter("routed_pcep_messages_total", "Messages of PCCs, by their type.", "type")
         figures.counter("routed_pcep_requests_total", "Requests, by what they were answered.", "outcome")
@@ -199,15 +208,28 @@ class Front:
         return f"version {self.version}, {up} sessions" if not self.is_away else f"no server, {up} sessions"
 
     def told(self, version: int) -> None:
-        self.version = version
+        is_first, self.version = not self.version, version
+        if self.placements is None or is_first:
+            self.tell(Session.again)
+        elif not self.is_told:  # each placing makes a version
+            self.is_told = True
+            self.loop.after(VERSIONS_APART, lambda: self.tell(Session.again_beside))
+
+    def tell(self, again: Callable[[Session], None]) -> None:
+        """Tells PCCs' sides of a version."""
+        self.is_told = False
         for file in self.files:  # its lines of this version are there, and need no ask of their own
             file.has_news()
-        self.again()
+        self.again(again)
 
-    def again(self) -> None:
+    def again(self, again: Callable[[Session], None] = Session.again) -> None:
         for pcc in [*self.pccs.values()]:
             if pcc.session.state == UP:
-                pcc.loop.call(pcc.session.again)
+                pcc.loop.call(again, pcc.session)
+
+    def countings(self) -> list[Counting]:
+        """What the sessions that are up count in the book."""
+        return [pcc.session.lsps.counting for pcc in self.pccs.values() if pcc.session.state == UP]
 
     # ---- PCCs
 
@@ -223,6 +245,8 @@ class Front:
         """Each second: SIDs and SRLGs that changed at no version of their own, and timers."""
         if any([file.has_news() for file in self.files]):
             self.again()
+        if self.placements:
+            self.placements.tick(self.clock())
         self.tick_next([*self.pccs.values()])
 
     def tick_next(self, left: list[Pcc]) -> None:
@@ -255,7 +279,7 @@ class Front:
             pcc.loop.call(pcc.session.lsps.making.reread)
 
     def run(self) -> int:
-        for place in (self.options.ask, self.options.watch):
+        for place in (self.options.ask, self.options.watch, self.options.placements):
             if place:
                 place.look_up()
         with tried(f"{self.options.address}:{self.options.port}: bind"):
@@ -267,6 +291,8 @@ class Front:
             Page(self.loop, self.options.metrics.bind(0o600), self.figures.text, prepare=self.census.go_on)
         Door(self.loop, listener, self.take)
         self.server.connect()
+        if self.placements:
+            self.placements.connect()
         self.tick()
         say(f"pcep {':'.join(map(str, listener.getsockname()[:2]))}", "ready")
         self.supervised.ready()

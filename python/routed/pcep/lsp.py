@@ -1,13 +1,19 @@
 """One LSP of a PCC, and the updates that it was sent."""
 from __future__ import annotations
 
+import typing
+
 from .requests import Request
 from .routes import Route
 from .wire import Hop, Refused, hops_of
 
+if typing.TYPE_CHECKING:
+    from .reports import Report
+
 # flags of an LSP object: D, S, R, A, O (three bits), C
 DELEGATED, SYNC, REMOVED, ADMIN, OPERATIONAL, CREATED = 1, 2, 4, 8, 0x70, 0x80
 DOWN = 0  # the O flags of an LSP that isn't signaled
+TAKEN = 23, 1  # the error of a delegation that belongs to another PCC
 WAITS = 10, 20, 40, 60  # seconds from one update of an LSP to the next equal one
 ANSWER = 10  # seconds that an update waits for its answer
 MOST_READ = 32768  # bytes of an ERO whose links are looked for; a longer one is compared by its bytes
@@ -62,6 +68,11 @@ class Lsp:
         self.fault: Refused | None = None  # why it is given back
         self.is_made, self.has_changed = False, False  # a line of --initiate has made it; that has changed since
         self.is_leaving, self.removal = False, 0  # it is to be removed, and the SRP of that
+        self.id: int | None = None  # of the book, if it is counted there
+        self.report: Report | None = None  # the last one, if it is counted
+        self.uncounted = ""  # why the book lacks it
+        self.is_excluding = False  # the answer that moves it was to a row that excludes links
+        self.swaps: list[float] = []  # when it was counted elsewhere without being moved, in the last seconds
 
     @property
     def hops(self) -> list[Hop | None]:
@@ -84,6 +95,15 @@ class Lsp:
     def is_reported_down(self) -> bool:
         """Whether its PCC says that it is down, though it should be up."""
         return bool(self.flags & ADMIN) and self.flags & OPERATIONAL == DOWN
+
+    def may_swap(self, now: float) -> bool:
+        """Whether it may be counted elsewhere now, since its PCC has reported so: that makes versions, and a PCC may say so for ever."""
+        self.swaps = [at for at in self.swaps if now - at < ANSWER]
+        return len(self.swaps) < MOST_AT_ONCE
+
+    def is_willing(self, now: float) -> bool:
+        """Whether its PCC has taken the last update, or may be sent another one."""
+        return self.last is None or self.last.is_settled and self.refused is None or now >= self.last.again_at()
 
     def faults(self) -> list[str]:
         """What is wrong with an LSP that is ours, as `routed_pcep_lsps_at_fault` counts it."""

@@ -6,7 +6,8 @@ import struct
 import typing
 
 from . import wire
-from .lsp import ADMIN, ANSWER, CREATED, DELEGATED, REMOVED, SYNC, Lsp, Update
+from .counting import Counting
+from .lsp import ADMIN, ANSWER, CREATED, DELEGATED, REMOVED, SYNC, TAKEN, Lsp, Update
 from .making import Making
 from .moves import Moves
 from .protocol import SessionFront
@@ -19,7 +20,6 @@ if typing.TYPE_CHECKING:
     from .session import Session
 
 TOO_MANY = 20, 1  # the error of a report above --most-lsps, or above the next bound
-TAKEN = 23, 1  # the error of a delegation that belongs to another PCC
 MOST_BYTES = 8 << 20  # bytes of the reports of all LSPs of a PCC
 # Why a delegation is returned, in words.
 FAULTS = {(3, 1): "an object of an unknown class", (3, 2): "an object of an unknown type", (4, 1): "an object that no row can say",
@@ -42,6 +42,7 @@ class Lsps:
         self.srp: int = (session.number - 1 << 12) % (1 << 32)  # a PCC may report numbers of an earlier session
         self.moves: Moves = Moves(self)
         self.making: Making = Making(self)
+        self.counting: Counting = Counting(self)
 
     # ---- reports
 
@@ -89,7 +90,9 @@ class Lsps:
         lsp.has_changed |= self.making.reported(lsp)
         if lsp.flags & CREATED:
             self.making.look(lsp)
-        if lsp.is_ours():
+        if self.counting.reported(lsp, one):
+            self.counting.ask(lsp)
+        elif lsp.is_ours():
             self.moves.ask(lsp)
         elif not lsp.flags & DELEGATED:
             self.drop_updates(lsp)
@@ -244,6 +247,7 @@ class Lsps:
             self.drop_updates(lsp)
             self.forget(lsp, lsp.name)
             self.front.say("info", f"{self.named(lsp)} is removed")
+            self.counting.gone(lsp)
             self.making.gone(lsp)
 
     def synced(self) -> None:
@@ -253,6 +257,7 @@ class Lsps:
             for lsp in [*self.all.values()]:
                 if lsp.fault:
                     self.give_back(lsp, lsp.fault)
+            self.counting.synced()
             self.making.initiate()
             self.moves.again()
 

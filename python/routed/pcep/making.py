@@ -3,12 +3,14 @@ from __future__ import annotations
 
 import struct
 import typing
+from dataclasses import replace
 
 from ..follow.slices import Form
 from ..model import rows
 from ..model.rows import Reply
 from ..net.loop import Owner
 from . import wire
+from .counting import BY_SEGMENTS, constraints_of
 from .lsp import ADMIN, CREATED, DELEGATED, Lsp
 from .protocol import SessionFront
 from .requests import Request
@@ -33,12 +35,14 @@ class Making:
         self.unmade: set[str] = set()  # names that were refused
         self.leaving: dict[int, Lsp] = {}  # by the SRP of its removal
         self.kept: set[int] = set()  # PLSP-IDs whose removal was refused
+        self.placed: dict[int, str] = {}  # by their ids in the book: names of LSPs that are counted, and aren't reported yet
 
     def reported(self, lsp: Lsp) -> bool:
         """An LSP is reported. Whether it was made for another line than the file has now."""
         lsp.is_made |= lsp.name in self.initiated
         srp, request = self.initiated.pop(lsp.name, (0, None))
         self.asked.pop(srp, None)
+        self.placed = {number: name for number, name in self.placed.items() if name != lsp.name} if self.placed else self.placed
         self.late.discard(lsp.name)
         return bool(lsp.flags & CREATED) and lsp.is_ours() and request is not None and request.row() != lsp.asked().row()
 
@@ -50,6 +54,7 @@ class Making:
                 del self.initiated[name]
                 self.unmade.add(name)
                 self.late.discard(name)
+                self.release(name)
                 self.front.say("error", f"{self.session.peer}: {name!r} isn't made: its PCC refused it")
             if lsp := self.leaving.pop(srp, None):
                 self.keep(lsp, "refuses to remove it")
@@ -66,6 +71,8 @@ class Making:
         """The file is another one: what was refused before, or not reported, is tried again."""
         for name in self.late:
             self.asked.pop(self.initiated.pop(name, (0, None))[0], None)
+            if self.front.wanted(self.session.peer, name) is None:
+                self.release(name)
         self.late.clear()
         self.unmade.clear()
         self.kept.clear()
@@ -149,7 +156,24 @@ class Making:
         if name not in self.initiated and name not in self.unmade:
             self.initiated[name] = 0, request
             self.waiting[name] = request
-            self.front.in_turn(self)
+            if self.is_counted():
+                self.lsps.counting.book.slices.add(self)
+            else:
+                self.front.in_turn(self)
+
+    def setup_type(self) -> int:
+        """The path setup type of LSPs that are made."""
+        return max(self.session.setup_types, default=0)
+
+    def is_counted(self) -> bool:
+        return self.lsps.counting.is_on(self.setup_type())
+
+    def release(self, name: str) -> None:
+        """An LSP isn't made: it isn't counted."""
+        if self.is_counted():
+            number = self.lsps.counting.id_of(name)
+            if self.placed.pop(number, None) is not None:
+                self.lsps.counting.release(number)
 
     def whose(self) -> Owner | None:
         return self.session.owner
@@ -166,14 +190,46 @@ class Making:
         if not self.may_make():  # it is begun again once it may be
             self.initiated.pop(name, None)
             return None
-        setup_type = max(self.session.setup_types, default=0)
+        setup_type = self.setup_type()
         sent = self.session.question(request, setup_type)
+        if self.is_counted():
+            return self.counted(name, request, sent)
         return sent.constraints(), lambda line: self.create(name, request, sent, setup_type, line)
 
-    def create(self, name: str, request: Request, sent: rows.Request, setup_type: int, line: str | None) -> None:
+    def counted(self, name: str, request: Request, sent: rows.Request) -> Form | None:
+        """The row that asks the book for the route of an LSP, which is placed then before it is made."""
+        counting = self.lsps.counting
+        number, constraints = counting.id_of(name), constraints_of(request, sent)
+        owner = counting.owners.get(number)
+        if owner or number in counting.book.busy or not counting.book.is_known:
+            self.initiated.pop(name, None)
+            if owner:
+                self.unmade.add(name)
+                self.front.say("error", f"{self.session.peer}: {name!r} isn't made: its id in the book is that of {self.lsps.named(owner)}")
+            elif counting.book.is_known:
+                counting.book.turn(number, "make", self.initiate)
+            return None
+        sent = replace(sent, bandwidth=0)
+
+        def offered(line: str | None) -> None:
+            if self.is_wanted(name, request, sent, BY_SEGMENTS, line):
+                self.placed[number] = name
+                counting.book.give(f"place,{number},{constraints}", placed, self.session.owner)
+            elif name not in self.initiated:
+                self.release(name)
+
+        def placed(line: str | None) -> None:
+            self.create(name, request, sent, BY_SEGMENTS, line)
+            if name not in self.initiated:
+                self.release(name)
+
+        return f"offer,{number},{constraints}", offered
+
+    def is_wanted(self, name: str, request: Request, sent: rows.Request, setup_type: int, line: str | None) -> bytes | None:
+        """The ERO of an LSP that is to be made by its answer; None if it isn't made now."""
         if not self.may_make():  # it is begun again once it may be
             self.initiated.pop(name, None)
-            return
+            return None
         answer = Reply.parse(line or "")
         if answer and not answer.why:
             ero, refusal = self.session.ero(answer, request, sent, setup_type)
@@ -183,13 +239,19 @@ class Making:
         if self.front.wanted(self.session.peer, name) is not request:  # its line has changed since it was asked for
             self.initiated.pop(name, None)
             self.initiate()
-            return
+            return None
         if why:
             self.initiated.pop(name, None)
             self.front.say("warning", f"{self.session.peer}: {name!r} isn't made: {why}")
             if line is None and not self.front.is_away and not self.is_due:
                 self.is_due = True
                 self.front.later(1, self.initiate, self.session.owner)
+            return None
+        return ero
+
+    def create(self, name: str, request: Request, sent: rows.Request, setup_type: int, line: str | None) -> None:
+        """Makes an LSP by its answer."""
+        if not (ero := self.is_wanted(name, request, sent, setup_type, line)):
             return
         self.initiated[name] = asked = self.lsps.next_srp(), request
         self.asked[asked[0]] = name

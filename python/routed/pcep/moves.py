@@ -18,6 +18,7 @@ from .routes import Route, has_labels, plain, route_of, says
 from .wire import Refused
 
 if typing.TYPE_CHECKING:
+    from .counting import Placing
     from .lsps import Lsps
 
 BUSY_AGAIN = 1  # seconds from an ask that no connection could take to the next
@@ -32,13 +33,21 @@ class Moves:
     # ---- asks
 
     def again(self) -> None:
-        """A new version."""
+        """A new version. The book asks for LSPs that it counts where its base is another one."""
         if self.lsps.is_synced:
-            self.waiting.update(dict.fromkeys(self.lsps.all.values()))
+            counts = self.lsps.counting.counts
+            self.waiting.update(dict.fromkeys(lsp for lsp in self.lsps.all.values() if not counts(lsp)))
             self.front.in_turn(self)
 
     def ask(self, lsp: Lsp) -> None:
         """Asks for the route of an LSP in its turn."""
+        if self.lsps.counting.counts(lsp):
+            self.lsps.counting.ask(lsp)
+        else:
+            self.put(lsp)
+
+    def put(self, lsp: Lsp) -> None:
+        """The same by a row of a client, also for an LSP that is counted."""
         self.waiting[lsp] = None
         self.front.in_turn(self)
 
@@ -72,8 +81,8 @@ class Moves:
         return sent.constraints(), lambda line: self.answered(lsp, request, sent, line)
 
     def ask_again(self, lsp: Lsp) -> None:
-        """Asks for the route of an LSP if it is still ours."""
-        if self.lsps.all.get(lsp.number) is lsp and lsp.is_ours():
+        """Asks for the route of an LSP if it is still ours, or counted."""
+        if self.lsps.all.get(lsp.number) is lsp and (lsp.is_ours() or lsp.id is not None):
             self.ask(lsp)
 
     def answered(self, lsp: Lsp, request: Request, sent: rows.Request, line: str | None) -> None:
@@ -86,11 +95,12 @@ class Moves:
         if request is lsp.request and self.is_followed_up(lsp, sent, answer, line):
             return
         if answer and request is lsp.request and answer.version >= self.front.network.version:
-            self.judge(lsp, sent, answer)
+            self.judge(lsp, sent if lsp.id is None else replace(sent, bandwidth=0), answer)
         elif line is not None and answer is None:
             self.front.say("error", f"{self.lsps.named(lsp)}: its request was refused: {line}")
         request.exclusions.settle()
-        if answer and (request is not lsp.request or answer.version < self.front.version):
+        is_old = answer and answer.version < (self.front.version if lsp.id is None else self.front.network.version)
+        if answer and request is not lsp.request or is_old:
             self.ask(lsp)
 
     def is_followed_up(self, lsp: Lsp, sent: rows.Request, answer: Reply | None, line: str | None) -> bool:
@@ -140,16 +150,16 @@ class Moves:
 
     def judge(self, lsp: Lsp, asked: rows.Request, answer: Reply) -> None:
         """Moves the LSP where its best route is another one, unless what it has still serves and little is gained, or its PCC has
-        refused that."""
+        refused that. Of one that is counted no bandwidth is asked here: it has its own."""
         request, network = lsp.asked(), self.front.network
         if answer.why or request.broken(answer.cost):
-            self.lose(lsp, answer.why or "above its bound")
+            self.lack(lsp, asked, answer.why or "above its bound")
             return
         ero, refusal = self.session.ero(answer, request, asked, lsp.setup_type)
         if refusal:
-            self.lose(lsp, refusal[1])
+            self.lack(lsp, asked, refusal[1])
             return
-        body, is_known = ero[4:], network.follows(asked, answer)
+        body, is_known, lsp.is_excluding = ero[4:], network.follows(asked, answer), bool(asked.excluded)
         self.found(lsp)
         sent = lsp.pending
         route = sent.route if sent else self.route_of(lsp)
@@ -173,6 +183,13 @@ class Moves:
             return  # it was sent, and reported in words that can't be read
         elif had is None or is_down or request.hops or route == answer.fars or not self.stays(lsp, had, answer.cost):
             self.move(lsp, ero, self.reason(lsp, had, is_broken), answer, is_broken)
+
+    def lack(self, lsp: Lsp, asked: rows.Request, why: str) -> None:
+        """There is no route that an LSP could be moved to. One that is counted where it is may stay there."""
+        if lsp.id is None:
+            self.lose(lsp, why)
+        elif why != "none" or not self.lsps.counting.is_booked(lsp) or self.front.network.cost(asked, self.route_of(lsp) or ()) is None:
+            self.lsps.counting.without(lsp, why)
 
     def reason(self, lsp: Lsp, had: int | None, is_broken: bool) -> str:
         """Why an LSP is moved, in a word."""
@@ -231,25 +248,54 @@ class Moves:
         return sent.at + ANSWER if sent.version == version and lsp.at_once >= MOST_AT_ONCE else 0.0
 
     def move(self, lsp: Lsp, ero: bytes, why: str, answer: Reply, is_broken: bool, is_try: bool = False) -> None:
-        """Sends an update, unless it has to wait. One for a route that its PCC kept, and that is lost now, doesn't wait."""
-        now, body, sent = self.front.clock(), ero[4:], lsp.last
-        at = self.next_at(lsp, body, answer.version)
-        if at > now and not is_try and not (is_broken and not lsp.was_lost):
+        """Sends an update, unless it has to wait, or the LSP has to be counted there first."""
+        if not self.may_move(lsp, ero, answer, is_broken, is_try):
+            return
+        if lsp.id is None or self.lsps.counting.has(lsp, answer):
+            self.send(lsp, ero, why, answer, is_broken, is_try)
+        else:
+            self.lsps.counting.place(lsp, why, is_broken, is_try, answer if lsp.is_excluding else None)
+
+    def may_move(self, lsp: Lsp, ero: bytes, answer: Reply, is_broken: bool, is_try: bool) -> bool:
+        """Whether an update may be sent now. One for a route that its PCC kept, and that is lost now, doesn't wait."""
+        at = self.next_at(lsp, ero[4:], self.version_of(lsp, answer))
+        if at > self.front.clock() and not is_try and not (is_broken and not lsp.was_lost):
             self.lsps.wake(lsp, at)
-            return
-        asked = lsp.asked()
-        attributes = asked.attributes + wire.metric(wire.TE_METRIC, answer.cost, is_computed=True) + asked.behind
-        if len(ero) + len(attributes) + 60 > wire.MOST:
+            return False
+        if len(ero) + len(self.attributes_for(lsp, answer)) + 60 > wire.MOST:
             self.lose(lsp, "its path has no room in a message")
-            return
+            return False
+        return True
+
+    def version_of(self, lsp: Lsp, answer: Reply) -> int:
+        """The version by which updates of an LSP are bounded. Each placing of one that is counted makes a version; the base's counts."""
+        return answer.version if lsp.id is None else self.lsps.counting.book.base
+
+    def attributes_for(self, lsp: Lsp, answer: Reply) -> bytes:
+        """The objects of an update behind its ERO."""
+        asked = lsp.asked()
+        return asked.attributes + wire.metric(wire.TE_METRIC, answer.cost, is_computed=True) + asked.behind
+
+    def placed(self, lsp: Lsp, ero: bytes, answer: Reply, placing: Placing) -> None:
+        """An LSP is counted on a route, and is moved there, unless it is there or on its way."""
+        sent, body = lsp.pending, ero[4:]
+        is_there = sent.ero == body if sent else bool(self.is_same(lsp, body, answer.fars)) and not placing.is_try
+        self.found(lsp)
+        if (lsp.has_changed or not is_there) and self.may_move(lsp, ero, answer, placing.is_broken, placing.is_try):
+            self.send(lsp, ero, placing.why, answer, placing.is_broken, placing.is_try)
+
+    def send(self, lsp: Lsp, ero: bytes, why: str, answer: Reply, is_broken: bool, is_try: bool) -> None:
+        now, body, sent = self.front.clock(), ero[4:], lsp.last
+        attributes = self.attributes_for(lsp, answer)
         is_again = sent is not None and sent.is_equal(body, self.attributes(lsp)) and now < sent.again_at() + ANSWER
         lsp.moved_at, lsp.has_changed, lsp.refused, lsp.was_lost = now, False, None, is_broken
-        lsp.at_once = lsp.at_once + 1 if sent and sent.version == answer.version else 1
+        version = self.version_of(lsp, answer)
+        lsp.at_once = lsp.at_once + 1 if sent and sent.version == version else 1
         if sent:
             self.lsps.updated.pop(sent.srp, None)
         self.lsps.update(lsp, ero, DELEGATED, attributes)
         tries = sent.tries + 1 if sent and is_again else 0
-        lsp.last, lsp.waits = Update(self.lsps.srp, body, self.attributes(lsp), answer.fars, answer.version, now, tries), True
+        lsp.last, lsp.waits = Update(self.lsps.srp, body, self.attributes(lsp), answer.fars, version, now, tries), True
         lsp.silent_since = now if lsp.silent_since is None else lsp.silent_since
         self.lsps.updated[self.lsps.srp] = lsp
         self.lsps.wake(lsp, now + ANSWER)

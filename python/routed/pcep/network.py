@@ -1,7 +1,8 @@
 """The network that PCCs have their LSPs in: what the journal makes, and the links that went from it."""
 from __future__ import annotations
 
-from collections.abc import Collection, Iterable
+from collections.abc import Collection, Iterable, Mapping
+from dataclasses import replace
 
 from ..follow.network import Followed
 from ..model.rows import Batch, Key, Link
@@ -62,6 +63,19 @@ class Network(Followed):
         if self.tail and not self.reach(version) and self.version < version:
             self.doubt(self.tail)
         return self.version == version and not self.is_doubted
+
+    def compare(self, version: int, links: Mapping[Key, Link]) -> None:
+        """These are the links of the server's network of a version, whatever is unreserved on them: so it is known whether the journal is
+        the server's. At a later version replies have said so."""
+        if self.tail is None or self.version > version:
+            return
+        is_there = self.reach(version)
+        mine = {key: row for key, row in self.rows.items() if isinstance(row, Link)} if is_there else {}
+        if is_there and len(mine) == len(links) and all(
+                key in mine and replace(mine[key], unreserved=link.unreserved) == link for key, link in links.items()):
+            self.is_proved, self.is_doubted = True, False
+        else:
+            self.doubt(self.tail)
 
     # ---- routes
 

@@ -7,6 +7,7 @@ from typing import Protocol
 from ..follow.slices import Asking
 from ..net.loop import Owner
 from .network import Network
+from .placements import Placements
 from .requests import Request
 from .sids import Sids
 from .srlgs import Srlgs
@@ -23,6 +24,7 @@ class SessionFront(Protocol):
     network: Network
     sids: Sids | None
     srlgs: Srlgs | None
+    placements: Placements | None  # where LSPs by segment routing are counted, if they are
     version: int  # the newest that is known
     clock: Callable[[], float]
 

@@ -33,6 +33,7 @@ class Request:
     def __init__(self, has_srlgs: bool = False) -> None:
         self.ends: tuple[str, str] = NOWHERE
         self.bandwidth, self.setup, self.hops = 0, 7, ""
+        self.hold = 7  # the holding priority, which a book counts by
         self.exclusions, self.has_srlgs = Exclusions(), has_srlgs  # whether it may name SRLGs
         self.masks = 0, 0, 0
         self.bounds: list[float] = []
@@ -86,7 +87,7 @@ class Request:
         exclude, any_, all_, setup, holding, _ = fields("!IIIBBBx", body)
         if setup > 7 or holding > 7:
             raise BadObject
-        self.masks, self.setup = (exclude, any_, all_), setup
+        self.masks, self.setup, self.hold = (exclude, any_, all_), setup, holding
 
     def take_metric(self, body: bytes) -> None:
         flags, kind = fields("!2xBB", body)

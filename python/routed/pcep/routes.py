@@ -26,16 +26,38 @@ def plain(hops: Sequence[Hop | None]) -> Route | None:
 def route_of(network: Network, sids: Sids | None, ends: tuple[str, str], hops: Sequence[Hop | None]) -> Route | None:
     """The route of an ERO between two routers, by the links that there are or were. None if it can't be read."""
     found = walk(network, sids, ends[0], hops)
-    return found[1] if found and found[0] == ends[1] else None
+    return fars_of(found[1]) if found and found[0] == ends[1] else None
 
 
-def walk(network: Network, sids: Sids | None, head: str, hops: Sequence[Hop | None]) -> tuple[str, Route] | None:
-    """The router at which an ERO ends, and its route there.
+def fars_of(links: Iterable[Link]) -> Route:
+    """A route by its links."""
+    return tuple(link.remote for link in links)
+
+
+def links_of(network: Network, head: str, fars: Iterable[str]) -> list[Link] | None:
+    """The links of a route. None if it isn't of this network."""
+    at, found = head, list[Link]()
+    for far in fars:
+        links = network.known(at, far)
+        if not links:
+            return None
+        found.append(first_of(links))
+        at = found[-1].neighbor
+    return found
+
+
+def first_of(links: Iterable[Link]) -> Link:
+    """The link that is taken of those that lead to one address."""
+    return min(links, key=lambda link: value(link.local))
+
+
+def walk(network: Network, sids: Sids | None, head: str, hops: Sequence[Hop | None]) -> tuple[str, list[Link]] | None:
+    """The router at which an ERO ends, and its links to there.
 
     It may name the routers by their Router IDs, each circuit by one end or by both, an interface by its network, and a link by its
     SID alone. Loose hops are read as the strict hops that they are to a router beside."""
     at, last = head, None
-    found: list[str] = []
+    found: list[Link] = []
     if len(hops) > MOST_HOPS:
         return None
     for hop in hops:
@@ -46,10 +68,10 @@ def walk(network: Network, sids: Sids | None, head: str, hops: Sequence[Hop | No
         links = one_circuit(network, candidates(network, sids, at, hop))
         if not links:
             return None
-        last = links[0]
+        last = first_of(links)
         at = last.neighbor
-        found.append(last.remote)
-    return at, tuple(found)
+        found.append(last)
+    return at, found
 
 
 def is_at(hop: Hop, at: str, last: Link | None) -> bool:

@@ -343,10 +343,18 @@ class Session:
         return wire.segments_ero(links), None
 
     def again(self) -> None:
-        """A new version: asks again for what had no path, and for the LSPs."""
+        """A new version, or more than that: asks again for what had no path, and for the LSPs."""
+        self.again_beside()
+        if self.front.placements:
+            self.lsps.counting.again()
+            self.lsps.making.initiate()
+
+    def again_beside(self) -> None:
+        """A new version, which the base of a book need not have changed at: asks for what isn't counted."""
         self.answers.again()
         self.lsps.moves.again()
-        self.lsps.making.initiate()
+        if not self.front.placements:
+            self.lsps.making.initiate()
 
 
 def stateful(flags: int) -> bytes:

@@ -55,6 +55,7 @@ def refusal(fields: list[str]) -> str | None:
 def request_of(fields: list[str]) -> Request:
     request = Request()
     request.ends, request.setup, request.bandwidth = (fields[0], fields[1]), int(fields[2]), int(fields[3])
+    request.hold = request.setup
     request.masks = int(fields[4], 16), int(fields[5], 16), int(fields[6], 16)
     request.attributes = wire.pack(wire.O_LSPA, struct.pack("!IIIBBBx", *request.masks, request.setup, request.setup, 0))
     if request.bandwidth:

@@ -1,0 +1,366 @@
+"""The LSPs of one session that the server's book counts: those by segment routing, whose bandwidth no router counts.
+
+The book counts an LSP where its PCC has it. The front counts one that it moves on the new route before its PCC is told."""
+from __future__ import annotations
+
+import functools
+import hashlib
+import socket
+import typing
+from collections.abc import Container
+from dataclasses import replace
+
+from ..follow.slices import Form
+from ..model import rows
+from ..model.rows import Reply
+from ..net.loop import Owner
+from .exclusions import Unavailable
+from .lsp import TAKEN, Lsp
+from .placements import Placement, Placements, hexadecimal
+from .protocol import SessionFront
+from .reports import Report
+from .requests import Request
+from .routes import fars_of, links_of, walk
+from .wire import Refused
+
+if typing.TYPE_CHECKING:
+    from .lsps import Lsps
+
+
+
+class Placing(typing.NamedTuple):
+    """Why an LSP is placed and moved, and the route that was found for it, if no row of the book finds it."""
+
+    why: str
+    is_broken: bool
+    is_try: bool
+    found: Reply | None
+
+
+BY_SEGMENTS = 1  # the path setup type of LSPs that are counted
+AWAY = "the place of --placements isn't there"
+
+
+class Counting:
+    def __init__(self, lsps: Lsps):
+        self.lsps, self.session = lsps, lsps.session
+        self.front: SessionFront = lsps.front
+        self.address = int.from_bytes(socket.inet_aton(self.session.peer), "big")
+        self.owners: dict[int, Lsp] = {}  # by their ids in the book
+        self.others: dict[int, dict[Lsp, None]] = {}  # those with the id of an owner, which aren't counted
+        self.waiting: dict[Lsp, None] = {}  # those that are looked at, in the order of their turns
+        self.lacking: dict[Lsp, None] = {}  # those that the book lacks, or that have no route
+
+    @property
+    def book(self) -> Placements:
+        assert self.front.placements
+        return self.front.placements
+
+    def is_on(self, setup_type: int) -> bool:
+        """Whether LSPs of this path setup type are counted."""
+        return self.front.placements is not None and setup_type == BY_SEGMENTS
+
+    def counts(self, lsp: Lsp) -> bool:
+        """Whether an LSP is to be counted. One that another PCC has delegated is counted for that PCC."""
+        return self.is_on(lsp.setup_type) and (lsp.fault is None or lsp.fault.args != TAKEN)
+
+    def has_rows(self, lsp: Lsp) -> bool:
+        """Whether the book can be asked for the route of an LSP: its rows exclude no links."""
+        try:
+            return not lsp.asked().exclusions.text(self.front)
+        except (Refused, Unavailable):
+            return False
+
+    def id_of(self, name: str) -> int:
+        """The id of an LSP: it is as old as its name, and each PCC has its own."""
+        return self.address << 32 | int.from_bytes(hashlib.sha256(name.encode()).digest()[:4], "big")
+
+    # ---- what is reported
+
+    def reported(self, lsp: Lsp, one: Report) -> bool:
+        """An LSP is reported. Whether it is counted."""
+        number = self.id_of(lsp.name) if self.counts(lsp) else None
+        if lsp.id is not None and lsp.id != number:
+            self.gone(lsp)
+        lsp.id, lsp.report = number, one if number is not None else None
+        if number is None:
+            return False
+        owner = self.owners.setdefault(number, lsp)
+        if owner is not lsp:
+            self.others.setdefault(number, {})[lsp] = None
+            self.miss(lsp, f"its id in the book, {number}, is that of {self.lsps.named(owner)}")
+        return True
+
+    def gone(self, lsp: Lsp) -> None:
+        """An LSP is removed, or isn't counted under its id any more. Another one may have the id then."""
+        number, lsp.id, lsp.uncounted = lsp.id, None, ""
+        self.lacking.pop(lsp, None)
+        if number is None:
+            return
+        others = self.others.get(number, {})
+        others.pop(lsp, None)
+        if self.owners.get(number) is lsp:
+            del self.owners[number]
+            if others:
+                self.owners[number] = heir = next(iter(others))
+                del others[heir]
+                self.ask(heir)
+            else:
+                self.release(number)
+        if not others:
+            self.others.pop(number, None)
+
+    def synced(self) -> None:
+        """The PCC has reported all LSPs that it has: others that the book has of it are released."""
+        if self.front.placements and self.book.is_known:
+            for number in [number for number in self.book.booked if number >> 32 == self.address]:
+                self.release(number)
+            self.again()
+            self.book.hearer.more_may_move()
+
+    def release(self, number: int) -> None:
+        """Releases a placement, if no LSP has its id by then."""
+        self.book.turn(number, "release", functools.partial(self.let_go, number))
+
+    def let_go(self, number: int) -> None:
+        is_wanted = number in self.owners or number in self.lsps.making.placed
+        if self.session.state == "up" and number in self.book.booked and not is_wanted:
+            self.book.give(f"release,{number}", lambda _: None, self.session.owner)
+
+    def miss(self, lsp: Lsp, why: str) -> None:
+        """The book lacks an LSP, which is said once."""
+        self.lacking[lsp] = None
+        if lsp.uncounted != why:
+            lsp.uncounted = why
+            self.front.say("error", f"{self.lsps.named(lsp)} is uncounted: {why}")
+
+    def found(self, lsp: Lsp) -> None:
+        """The book has an LSP."""
+        if lsp.uncounted:
+            lsp.uncounted = ""
+            self.front.say("warning", f"{self.lsps.named(lsp)} is counted now")
+
+    # ---- turns
+
+    def again(self) -> None:
+        """The base has changed, or more than that: each LSP is looked at."""
+        self.ask(*self.owners.values())
+
+    def look_for_room(self, is_time: bool, tried: Container[int | None]) -> None:
+        """There may be room where there was none, for LSPs without a route; from time to time also for others. Some are tried by others."""
+        those, self.lacking = self.owners.values() if is_time else self.lacking, {}
+        self.ask(*(lsp for lsp in those if lsp.id not in tried))
+        if is_time:
+            self.lsps.making.initiate()
+
+    def known(self) -> None:
+        """The book was read."""
+        if self.lsps.is_synced:
+            self.synced()
+            self.lsps.making.initiate()
+        else:
+            self.again()
+        self.session.answers.again()
+
+    def ask(self, *those: Lsp) -> None:
+        """Looks at LSPs, each in its turn."""
+        self.waiting.update(dict.fromkeys(those))
+        if self.waiting:
+            self.book.slices.add(self)
+
+    def whose(self) -> Owner | None:
+        return self.session.owner
+
+    def has_more(self) -> bool:
+        return bool(self.waiting)
+
+    def following(self) -> Form | None:
+        """The row of the LSP whose turn it is: what the book should have, or else an offer."""
+        if not self.waiting:
+            return None
+        lsp = next(iter(self.waiting))
+        del self.waiting[lsp]
+        if self.session.state != "up" or lsp.id is None or self.owners.get(lsp.id) is not lsp:
+            return None
+        if not self.book.is_known:
+            self.miss(lsp, AWAY)
+            return None
+        if lsp.id in self.book.busy:
+            self.book.turn(lsp.id, "look", functools.partial(self.ask, lsp))
+            return None
+        return self.settling(lsp, lsp.id) or self.offering(lsp, lsp.id)
+
+    # ---- where an LSP is
+
+    def settling(self, lsp: Lsp, number: int) -> Form | None:
+        """The row by which the book has an LSP as its PCC does. One that is being moved or removed stays as the book has it."""
+        request, booked = self.request_of(lsp), self.book.booked.get(number)
+        if request is None:
+            self.miss(lsp, "its ends aren't known, or are the same")
+            return None
+        asked = request.asked(self.session.group(BY_SEGMENTS))
+        constraints, (route, is_usable) = constraints_of(request, asked), self.route_of(lsp, asked)
+        wanted = Placement(constraints, route)
+        if booked is None and route:
+            return f"held,{number},{constraints},{route}", functools.partial(self.taken, lsp)
+        if booked is None:
+            return None if lsp.is_ours() else self.placing(lsp, number, constraints)
+        self.found(lsp)
+        if lsp.pending or lsp.is_leaving or lsp.has_changed:
+            return None
+        if booked != wanted and not lsp.may_swap(now := self.front.clock()):
+            self.lsps.wake(lsp, now + 1)
+            return None
+        if booked != wanted and is_usable:
+            lsp.swaps.append(now)
+            return f"release,{number}\nheld,{number},{constraints},{route}", functools.partial(self.taken, lsp)
+        return None if booked.constraints == constraints or lsp.is_ours() else self.placing(lsp, number, constraints)
+
+    def placing(self, lsp: Lsp, number: int, constraints: str) -> Form:
+        """The row that places an LSP which isn't sent its route."""
+        return f"place,{number},{constraints}", functools.partial(self.taken, lsp)
+
+    def taken(self, lsp: Lsp, line: str | None) -> None:
+        """The line of a row by which the book was to have an LSP."""
+        answer = Reply.parse(line or "")
+        if line is None or self.owners.get(lsp.id or 0) is not lsp:
+            return
+        if answer and answer.why or " refused: " in line:
+            self.miss(lsp, answer.why if answer and answer.why else line)
+            if line.endswith(" same-id"):
+                self.book.read_again()
+            return
+        self.found(lsp)
+        if lsp.is_ours():
+            self.ask(lsp)
+
+    def request_of(self, lsp: Lsp) -> Request | None:
+        """What is counted of an LSP: what is asked for it, or, of one that isn't ours, what can be read of its constraints."""
+        if lsp.request:
+            return lsp.request
+        assert lsp.report
+        request = Request(bool(self.front.srlgs))
+        for constraint in lsp.report.constraints:
+            try:
+                request.take(constraint._replace(must=False))
+            except Refused:
+                continue
+        request.ends = self.lsps.routers(lsp.report.ends or self.lsps.ends_by_route(lsp.report))
+        return request if request.ends[0] != request.ends[1] else None
+
+    def route_of(self, lsp: Lsp, asked: rows.Request) -> tuple[str, bool]:
+        """The route that its PCC has reported, as a `held` row has it, and whether it may be used; empty if it can't be read."""
+        network = self.front.network
+        if not lsp.ero or not network.is_proved:
+            return "", False
+        sent = lsp.last
+        if sent and sent.ero == lsp.ero:
+            links = links_of(network, asked.head, sent.route)
+        else:
+            found = walk(network, self.front.sids, asked.head, lsp.hops)
+            links = found[1] if found and found[0] == asked.tail else None
+        if not links:
+            return "", False
+        return hexadecimal(links), network.cost(replace(asked, bandwidth=0), fars_of(links)) is not None
+
+    # ---- where it should be
+
+    def offering(self, lsp: Lsp, number: int) -> Form | None:
+        """The row by which it is known where an LSP would be placed."""
+        if not lsp.is_ours() or not self.lsps.is_synced or self.front.is_away or self.session.is_full:
+            return None
+        if not self.has_rows(lsp):
+            self.lsps.moves.put(lsp)
+            return None
+        request = lsp.asked()
+        asked = request.asked(self.session.group(BY_SEGMENTS))
+        return f"offer,{number},{constraints_of(request, asked)}", functools.partial(self.offered, lsp, request, replace(asked, bandwidth=0))
+
+    def offered(self, lsp: Lsp, request: Request, asked: rows.Request, line: str | None) -> None:
+        if line is None or not self.is_ours(lsp) or self.session.is_overloaded():
+            return
+        answer = Reply.parse(line)
+        if request is not lsp.request:
+            self.ask(lsp)
+        elif answer:
+            self.lsps.moves.judge(lsp, asked, answer)
+        else:
+            self.without(lsp, line)
+        request.exclusions.settle()
+
+    def is_ours(self, lsp: Lsp) -> bool:
+        """Whether an LSP is still counted, and may be moved."""
+        return self.session.state == "up" and lsp.is_ours() and lsp.id is not None and self.owners.get(lsp.id) is lsp
+
+    def is_booked(self, lsp: Lsp) -> bool:
+        """Whether the book has an LSP."""
+        return lsp.id is not None and lsp.id in self.book.booked
+
+    def without(self, lsp: Lsp, why: str) -> None:
+        """There is no route for an LSP. One that the book lacks is uncounted."""
+        self.lsps.moves.lose(lsp, why)
+        self.lacking[lsp] = None
+        if not self.is_booked(lsp):
+            self.miss(lsp, why)
+
+    def has(self, lsp: Lsp, answer: Reply) -> bool:
+        """Whether the book has an LSP on the route of an answer, for what is asked now."""
+        request = lsp.asked()
+        asked = request.asked(self.session.group(BY_SEGMENTS))
+        links = links_of(self.front.network, asked.head, answer.fars)
+        wanted = Placement(constraints_of(request, asked), hexadecimal(links)) if links else None
+        return wanted is not None and self.book.booked.get(lsp.id or 0) == wanted
+
+    def place(self, lsp: Lsp, why: str, is_broken: bool, is_try: bool = False, found: Reply | None = None) -> None:
+        """Places an LSP before it is moved. The route of one that excludes links was found already, since no row of a book does so."""
+        number, request = lsp.id, lsp.asked()
+        if number is None:
+            return
+        asked, had = request.asked(self.session.group(BY_SEGMENTS)), self.book.booked.get(number)
+        text = f"place,{number},{constraints_of(request, asked)}"
+        if found:
+            links = links_of(self.front.network, asked.head, found.fars) or []
+            text = f"held,{number},{constraints_of(request, asked)},{hexadecimal(links)}"
+            text = f"release,{number}\n{text}" if had else text
+        call = functools.partial(self.placed, lsp, request, had, Placing(why, is_broken, is_try, found))
+        self.book.turn(number, "place", functools.partial(self.book.give, text, call, self.session.owner))
+
+    def placed(self, lsp: Lsp, request: Request, had: Placement | None, placing: Placing, line: str | None) -> None:
+        """An LSP is placed, and is moved there. What was counted before is counted again if it can't be."""
+        if line is None:
+            return
+        answer = placing.found if placing.found and line.startswith("held ") and " refused: " not in line else Reply.parse(line)
+        if not self.is_ours(lsp) or self.session.is_full or request is not lsp.request:
+            if self.session.state == "up" and lsp.id is not None:
+                self.ask(lsp)
+            return
+        if answer is None or answer.why:
+            self.without(lsp, answer.why if answer and answer.why else line)
+            return
+        asked = replace(request.asked(self.session.group(BY_SEGMENTS)), bandwidth=0)
+        ero, fault = self.session.ero(answer, request, asked, BY_SEGMENTS)
+        if fault or request.broken(answer.cost):
+            self.undo(lsp, had, fault[1] if fault else "above its bound")
+            return
+        self.found(lsp)
+        self.lsps.moves.placed(lsp, ero, answer, placing)
+
+    def undo(self, lsp: Lsp, had: Placement | None, why: str) -> None:
+        """Counts again what was counted before an LSP was placed, since it can't be moved there."""
+        number = lsp.id
+        back = f"\nheld,{number},{had.constraints},{had.route}" if had and had.route else ""
+        self.book.give(f"release,{number}{back}", lambda _: self.without(lsp, why), self.session.owner)
+
+
+def constraints_of(request: Request, asked: rows.Request) -> str:
+    """The fields of a row of a book behind its id: as of an `ask` row, but for the holding priority. No bits stand past the length of a
+    hop's prefix, so that the text of the book has the same."""
+    hops = " ".join(plain(hop) for hop in asked.hops.split())
+    return replace(asked, setup=request.hold, hops=hops, excluded="").constraints()
+
+
+def plain(hop: str) -> str:
+    address, rest = hop.split("/")
+    length = int(rest[:-1])
+    bits = int.from_bytes(socket.inet_aton(address), "big") >> 32 - length << 32 - length
+    return f"{socket.inet_ntoa(bits.to_bytes(4, 'big'))}/{rest}"
