@@ -5,10 +5,11 @@ import os
 import struct
 import types
 
-from pcep.played import Front, Pcc, report, request, told
-from reference import books, formats, runs
+from pcep.played import Front, Pcc, reply, report, request, told
+from reference import books, runs
 from reference.formats import address_text
 
+from routed.model.rows import row_of
 from routed.pcep import wire
 from routed.pcep.displaced import Displaced
 from routed.pcep.session import UP, Session
@@ -25,6 +26,7 @@ class Server:
     def __init__(self, journal):
         self.book, self.journal, self.changes = books.Book(), journal, []
         self.sent, self.lines_, self.rows, self.is_held, self.is_busy = b"", [], [], False, False
+        self.fields = {}  # of rows that place, by their ids
         self.refusing = {}  # by kinds of rows: the words by which they are refused
         self.over = []  # versions at which a link has less than is counted, with no line that says so
         self.front = None
@@ -70,7 +72,9 @@ class Server:
 
     def answer(self, row):
         self.rows.append(row)
-        kind = row.partition(",")[0]
+        kind, *fields = row.split(",")
+        if kind in ("place", "held"):
+            self.fields[int(fields[0])] = ",".join(fields[1:9])
         if row == "book":
             self.lines_ += ["busy"] if self.is_busy else [f"version {self.book.version}", *self.text(), "book end"]
         elif kind in self.refusing:
@@ -83,9 +87,8 @@ class Server:
             yield runs.batch_text(1, [("put", link)]).splitlines()[0]
         yield f"end,1,{len(self.book.base.links)}"
         for it in self.book.placements:
-            asked = {**it.request, "setup": it.request["hold"]}
             route = "".join(f"{link['local']:08x}{link['to']:08x}" for link in it.route)
-            yield f"held,{it.request['id']},{fields_of(asked)},{route}"
+            yield f"held,{it.request['id']},{self.fields[it.request['id']]},{route}"
 
     def base(self, *rows):
         """A batch of the base, whose lines are news."""
@@ -133,11 +136,6 @@ class Server:
         """What is counted at the last priority, by the ends of links."""
         return {(address_text(key[0])[-1], address_text(self.book.base.links[key]["to"])[-1]): sums[7]
                 for key, sums in books.counted(self.book.placements).items() if key in self.book.base.links}
-
-
-def fields_of(asked):
-    masks = ",".join(f"0x{asked[name]:08x}" for name in ("exclude_any", "include_any", "include_all"))
-    return f"{address_text(asked['from'])},{address_text(asked['to'])},{asked['setup']},{asked['bandwidth']},{masks},"
 
 
 class Loop:
@@ -188,8 +186,7 @@ class CountedFront(Front):
     def ask(self, row, call, owner=None):
         network = books.effective(self.server.book.base, self.server.book.placements)
         self.asked.append(row)
-        call(network.reply(self.server.book.version, f"ask,1,{row}") if row.count(",") == 7
-             else super().reply(network, row))
+        call(reply(network, self.server.book.version, row_of(1, row)))
 
     def join(self, number=1, **more):
         """A PCC of router 1, or of another one, whose session is up."""

@@ -1,11 +1,11 @@
 """LSPs by segment routing that a book counts, against a place that tests/reference/books.py plays."""
-import os
 import struct
 import tempfile
+import time
 
-from pcep.book_front import FULL, CountedFront, ero_of
-from pcep.played import CIRCUITS, lspa, metric, request, rows, told
-from reference import books
+from pcep.book_front import CountedFront, Server, ero_of
+from pcep.counted_runs import counts
+from pcep.played import CIRCUITS, lspa, metric, report, rows
 
 from routed.pcep import wire
 from routed.pcep.wanted import request_of
@@ -113,8 +113,6 @@ def sessions(checks, room):
     pcc.end_sync()
     checks.same("what isn't reported is released", (sorted(front.server.routes().values()), sorted(kinds(front, since))),
                 ([NORTH, NORTH], ["offer", "offer", "release"]))
-    other = CountedFront.__new__(CountedFront)
-    vars(other).update(vars(front))
     front.server.hang_up()
     since = len(front.server.rows)
     pcc.remove(7)
@@ -268,6 +266,114 @@ def made(checks, room):
     checks.same("no circuit carries more than it has, ever", front.server.over, [])
 
 
-def counted(checks):
+def constrained(checks, room):
+    """Bounds, groups, hops and exclusions."""
+    front, pcc = with_lsps(room, ("a", None, 1e6, 9, [metric(2, 150)]))
+    front.server.base("drop,10.0.0.2,10.2.4.2")
+    checks.same("above its bound: it stays counted where it was", (list(front.server.routes().values()), pcc.told_), ([NORTH], [(1, "24")]))
+    checks.same("no version is made in vain", kinds(front)[-2:], ["offer", "offer"])
+    since = len(front.server.rows)
+    front.pass_time(30)
+    checks.true("nor later", {*kinds(front, since)} <= {"offer"}, kinds(front, since))
+    front, pcc = with_lsps(room, ("a", None, 1e6, 9, [pack(10, bytes([1, 8, 10, 1, 3, 7, 24, 0]))]))
+    checks.same("hops have no bits past their length, as in the text of the book", front.server.rows[-1].split(",")[-1], "10.1.3.0/24l")
+    front.server.hang_up()
+    since = len(front.server.rows)
+    front.pass_time(1)
+    checks.same("so the book that is read again is the same", [*{*kinds(front, since)} - {"offer"}], ["book"])
+    avoiding = [pack(wire.O_XRO, bytes(4) + bytes([1, 8, 10, 1, 2, 1, 32, 0]))]
+    front, pcc = with_lsps(room, ("a", "124", 1e8, 9, avoiding), gain=100)
+    checks.same("one that excludes a circuit is moved off it, and is counted there", (pcc.told_, list(front.server.routes().values())),
+                ([(1, "34")], [SOUTH]))
+    checks.same("by an except row and held rows", ([row.count(",") for row in front.asked], kinds(front)[-2:]), ([8] * len(front.asked), ["release", "held"]))
+    checks.same("no row of the book lacks what is excluded", kinds(front).count("place"), 0)
+    front.server.base(*rows([(1, 2, 60)]))
+    checks.same("its own bandwidth doesn't make it lost", (pcc.told_[1:], said(front, "has no route")), ([], []))
+    front, pcc = with_lsps(room, ("a", None, 2e8))
+    checks.same("more than any circuit has", said(front, "is uncounted"), ["10.0.0.1: LSP 'a' (1) is uncounted: none"])
+    checks.same("no circuit carries more than it has, ever", front.server.over, [])
+
+
+def hostile(checks, room):
+    """Reports that can't be read, LSPs that change without end, and a place that says something else."""
+    front, pcc = with_lsps(room, ("a", "124", 1e6))
+    strange = [bytes([1, 8, 9, 9, 9, 9, 32, 0]), bytes([36, 8, 0, 0]) + bytes(4), bytes([2, 20]) + bytes(18), ero_of("12")]
+    for number, ero in enumerate(strange, 20):
+        for flags in (8, 9):
+            pcc.lsps[10 * number + flags] = {"name": b"n%d.%d" % (number, flags), "ero": ero, "flags": flags, "ends": None,
+                                             "more": [pack(5, struct.pack("!f", 1e6))]}
+            pcc.tell(10 * number + flags)
+    checks.same("routes that can't be read are placed", len(front.server.routes()), 1 + 2 * len(strange))
+    checks.same("those that are delegated are told so", [number % 10 for number, _ in pcc.told_], [9] * len(strange))
+    pcc.is_obeying = False
+    before = front.server.book.version
+    for count in range(200):
+        pcc.have(1, "a", ("124", "134")[count % 2], 1e6 + count)
+    checks.true("an LSP that changes without end makes few versions", front.server.book.version - before < 40, front.server.book.version - before)
+    front.pass_time(60)
+    checks.true("and few in a minute", front.server.book.version - before < 150, front.server.book.version - before)
+    for text in ("what", "place 1 v2 none", "base", "lost x", "version 7", "refused", "\xff"):
+        front = begun(room)
+        pcc = front.join()
+        pcc.end_sync()
+        front.server.lines_ = [text]
+        front.server.call(1)
+        checks.same(f"a place that says {text!r} is connected again", (front.placements.is_known, front.pass_time(1), front.placements.is_known),
+                    (False, None, True))
+    front = begun(room)
+    pcc = front.join()
+    front.server.is_held = True
+    pcc.have(1, "a", "124", 1e6)
+    front.pass_time(59)
+    checks.same("a place that is silent", front.placements.is_known, True)
+    front.pass_time(3)
+    checks.same("is left after a minute", front.placements.is_known, False)
+    front.server.is_held = False
+    front.pass_time(2)
+    checks.same("and what is reported is counted then", list(front.server.routes().values()), [NORTH])
+
+
+class Full(Server):
+    """A server of few words, with room for some LSPs."""
+
+    room = 65536
+
+    def answer(self, row):
+        kind, name, *_ = row.split(",", 2)
+        self.rows.append(kind)
+        if kind == "held" and self.taken >= self.room:
+            self.lines_.append(f"held {name} refused: full")
+        elif kind == "held":
+            self.taken += 1
+            self.lines_.append(f"held {name} v{self.book.version + self.taken}")
+        else:
+            self.lines_.append(f"{kind} {name} v{self.book.version + self.taken} none")
+
+    taken = 0
+
+
+def many(checks, room):
+    """70,000 LSPs of 18 PCCs, of which the book has room for 65,536."""
+    front = begun(room)
+    front.server.__class__ = Full
+    began, slowest = time.monotonic(), 0.0
+    for router in range(1, 19):
+        pcc = front.join(router)
+        for first in range(1, 4000, 100):
+            if router < 18 or first < 2000:
+                pcc.say(b"".join(wire.message(10, *report(number, 8, ero_of("124"), b"%d" % number, 0, 1, ends=(1, 4)))
+                                 for number in range(first, first + 100)))
+        while front.server.sent or front.placements.rows or any(at <= front.time for at, _ in front.laters):
+            step = time.monotonic()
+            front.pass_time(1)
+            slowest = max(slowest, time.monotonic() - step)
+    checks.same("as many are counted as there is room for", len(front.placements.booked), 65536)
+    checks.same("the others are said to be uncounted", (len(said(front, "is uncounted")), len(said(front, "refused: full"))), (70000 - 65536,) * 2)
+    checks.same("each was asked for once", front.server.rows.count("held"), 70000)
+    print(f"counted: 70,000 LSPs in {time.monotonic() - began:.0f} s, {slowest:.2f} s at most at a time")
+
+
+def counted(program, checks):
     with tempfile.TemporaryDirectory() as room:
-        checks.parts_in(room, (three, reported, sessions, doubles, circuits, refused, made), checks)
+        checks.parts_in(room, (three, reported, sessions, doubles, circuits, refused, made, constrained, hostile, many), checks)
+        checks.parts_in(room, (counts,), program, checks)

@@ -14,9 +14,10 @@ from ..follow.slices import Form
 from ..model import rows
 from ..model.rows import Reply
 from ..net.loop import Owner
-from .exclusions import Unavailable
 from .lsp import TAKEN, Lsp
-from .placements import Placement, Placements, hexadecimal
+from .placement import Placement, hexadecimal
+from .placements import Placements
+from .placing import BY_SEGMENTS, Placing, constraints_of
 from .protocol import SessionFront
 from .reports import Report
 from .requests import Request
@@ -26,18 +27,6 @@ from .wire import Refused
 if typing.TYPE_CHECKING:
     from .lsps import Lsps
 
-
-
-class Placing(typing.NamedTuple):
-    """Why an LSP is placed and moved, and the route that was found for it, if no row of the book finds it."""
-
-    why: str
-    is_broken: bool
-    is_try: bool
-    found: Reply | None
-
-
-BY_SEGMENTS = 1  # the path setup type of LSPs that are counted
 AWAY = "the place of --placements isn't there"
 
 
@@ -50,6 +39,7 @@ class Counting:
         self.others: dict[int, dict[Lsp, None]] = {}  # those with the id of an owner, which aren't counted
         self.waiting: dict[Lsp, None] = {}  # those that are looked at, in the order of their turns
         self.lacking: dict[Lsp, None] = {}  # those that the book lacks, or that have no route
+        self.placing: Placing = Placing(self)
 
     @property
     def book(self) -> Placements:
@@ -63,13 +53,6 @@ class Counting:
     def counts(self, lsp: Lsp) -> bool:
         """Whether an LSP is to be counted. One that another PCC has delegated is counted for that PCC."""
         return self.is_on(lsp.setup_type) and (lsp.fault is None or lsp.fault.args != TAKEN)
-
-    def has_rows(self, lsp: Lsp) -> bool:
-        """Whether the book can be asked for the route of an LSP: its rows exclude no links."""
-        try:
-            return not lsp.asked().exclusions.text(self.front)
-        except (Refused, Unavailable):
-            return False
 
     def id_of(self, name: str) -> int:
         """The id of an LSP: it is as old as its name, and each PCC has its own."""
@@ -188,7 +171,7 @@ class Counting:
         if lsp.id in self.book.busy:
             self.book.turn(lsp.id, "look", functools.partial(self.ask, lsp))
             return None
-        return self.settling(lsp, lsp.id) or self.offering(lsp, lsp.id)
+        return self.settling(lsp, lsp.id) or self.placing.offering(lsp, lsp.id)
 
     # ---- where an LSP is
 
@@ -200,11 +183,11 @@ class Counting:
             return None
         asked = request.asked(self.session.group(BY_SEGMENTS))
         constraints, (route, is_usable) = constraints_of(request, asked), self.route_of(lsp, asked)
-        wanted = Placement(constraints, route)
+        wanted = Placement.of(constraints, route)
         if booked is None and route:
             return f"held,{number},{constraints},{route}", functools.partial(self.taken, lsp)
         if booked is None:
-            return None if lsp.is_ours() else self.placing(lsp, number, constraints)
+            return None if lsp.is_ours() else self.estimate(lsp, number, constraints)
         self.found(lsp)
         if lsp.pending or lsp.is_leaving or lsp.has_changed:
             return None
@@ -214,9 +197,9 @@ class Counting:
         if booked != wanted and is_usable:
             lsp.swaps.append(now)
             return f"release,{number}\nheld,{number},{constraints},{route}", functools.partial(self.taken, lsp)
-        return None if booked.constraints == constraints or lsp.is_ours() else self.placing(lsp, number, constraints)
+        return None if booked.constraints == constraints or lsp.is_ours() else self.estimate(lsp, number, constraints)
 
-    def placing(self, lsp: Lsp, number: int, constraints: str) -> Form:
+    def estimate(self, lsp: Lsp, number: int, constraints: str) -> Form:
         """The row that places an LSP which isn't sent its route."""
         return f"place,{number},{constraints}", functools.partial(self.taken, lsp)
 
@@ -263,30 +246,7 @@ class Counting:
             return "", False
         return hexadecimal(links), network.cost(replace(asked, bandwidth=0), fars_of(links)) is not None
 
-    # ---- where it should be
-
-    def offering(self, lsp: Lsp, number: int) -> Form | None:
-        """The row by which it is known where an LSP would be placed."""
-        if not lsp.is_ours() or not self.lsps.is_synced or self.front.is_away or self.session.is_full:
-            return None
-        if not self.has_rows(lsp):
-            self.lsps.moves.put(lsp)
-            return None
-        request = lsp.asked()
-        asked = request.asked(self.session.group(BY_SEGMENTS))
-        return f"offer,{number},{constraints_of(request, asked)}", functools.partial(self.offered, lsp, request, replace(asked, bandwidth=0))
-
-    def offered(self, lsp: Lsp, request: Request, asked: rows.Request, line: str | None) -> None:
-        if line is None or not self.is_ours(lsp) or self.session.is_overloaded():
-            return
-        answer = Reply.parse(line)
-        if request is not lsp.request:
-            self.ask(lsp)
-        elif answer:
-            self.lsps.moves.judge(lsp, asked, answer)
-        else:
-            self.without(lsp, line)
-        request.exclusions.settle()
+    # ---- what is so
 
     def is_ours(self, lsp: Lsp) -> bool:
         """Whether an LSP is still counted, and may be moved."""
@@ -295,72 +255,3 @@ class Counting:
     def is_booked(self, lsp: Lsp) -> bool:
         """Whether the book has an LSP."""
         return lsp.id is not None and lsp.id in self.book.booked
-
-    def without(self, lsp: Lsp, why: str) -> None:
-        """There is no route for an LSP. One that the book lacks is uncounted."""
-        self.lsps.moves.lose(lsp, why)
-        self.lacking[lsp] = None
-        if not self.is_booked(lsp):
-            self.miss(lsp, why)
-
-    def has(self, lsp: Lsp, answer: Reply) -> bool:
-        """Whether the book has an LSP on the route of an answer, for what is asked now."""
-        request = lsp.asked()
-        asked = request.asked(self.session.group(BY_SEGMENTS))
-        links = links_of(self.front.network, asked.head, answer.fars)
-        wanted = Placement(constraints_of(request, asked), hexadecimal(links)) if links else None
-        return wanted is not None and self.book.booked.get(lsp.id or 0) == wanted
-
-    def place(self, lsp: Lsp, why: str, is_broken: bool, is_try: bool = False, found: Reply | None = None) -> None:
-        """Places an LSP before it is moved. The route of one that excludes links was found already, since no row of a book does so."""
-        number, request = lsp.id, lsp.asked()
-        if number is None:
-            return
-        asked, had = request.asked(self.session.group(BY_SEGMENTS)), self.book.booked.get(number)
-        text = f"place,{number},{constraints_of(request, asked)}"
-        if found:
-            links = links_of(self.front.network, asked.head, found.fars) or []
-            text = f"held,{number},{constraints_of(request, asked)},{hexadecimal(links)}"
-            text = f"release,{number}\n{text}" if had else text
-        call = functools.partial(self.placed, lsp, request, had, Placing(why, is_broken, is_try, found))
-        self.book.turn(number, "place", functools.partial(self.book.give, text, call, self.session.owner))
-
-    def placed(self, lsp: Lsp, request: Request, had: Placement | None, placing: Placing, line: str | None) -> None:
-        """An LSP is placed, and is moved there. What was counted before is counted again if it can't be."""
-        if line is None:
-            return
-        answer = placing.found if placing.found and line.startswith("held ") and " refused: " not in line else Reply.parse(line)
-        if not self.is_ours(lsp) or self.session.is_full or request is not lsp.request:
-            if self.session.state == "up" and lsp.id is not None:
-                self.ask(lsp)
-            return
-        if answer is None or answer.why:
-            self.without(lsp, answer.why if answer and answer.why else line)
-            return
-        asked = replace(request.asked(self.session.group(BY_SEGMENTS)), bandwidth=0)
-        ero, fault = self.session.ero(answer, request, asked, BY_SEGMENTS)
-        if fault or request.broken(answer.cost):
-            self.undo(lsp, had, fault[1] if fault else "above its bound")
-            return
-        self.found(lsp)
-        self.lsps.moves.placed(lsp, ero, answer, placing)
-
-    def undo(self, lsp: Lsp, had: Placement | None, why: str) -> None:
-        """Counts again what was counted before an LSP was placed, since it can't be moved there."""
-        number = lsp.id
-        back = f"\nheld,{number},{had.constraints},{had.route}" if had and had.route else ""
-        self.book.give(f"release,{number}{back}", lambda _: self.without(lsp, why), self.session.owner)
-
-
-def constraints_of(request: Request, asked: rows.Request) -> str:
-    """The fields of a row of a book behind its id: as of an `ask` row, but for the holding priority. No bits stand past the length of a
-    hop's prefix, so that the text of the book has the same."""
-    hops = " ".join(plain(hop) for hop in asked.hops.split())
-    return replace(asked, setup=request.hold, hops=hops, excluded="").constraints()
-
-
-def plain(hop: str) -> str:
-    address, rest = hop.split("/")
-    length = int(rest[:-1])
-    bits = int.from_bytes(socket.inet_aton(address), "big") >> 32 - length << 32 - length
-    return f"{socket.inet_ntoa(bits.to_bytes(4, 'big'))}/{rest}"

@@ -125,8 +125,8 @@ class Displaced:
         """Places again. An LSP that is the front's to move is moved there; for others that is kept where they might go."""
         counting, lsp = self.lsp_of(number) or (None, None)
         if counting and lsp and counting.is_ours(lsp):
-            if counting.has_rows(lsp):
-                counting.place(lsp, why, True)
+            if counting.placing.has_rows(lsp):
+                counting.placing.displace(lsp, why)
             else:
                 counting.ask(lsp)
         elif placement := self.book.booked.get(number):
@@ -206,7 +206,7 @@ class Displaced:
         if placement is None or found is None or placement.hold > priority or not placement.bandwidth:
             return False
         counting, lsp = found
-        is_ready = counting.is_ours(lsp) and counting.lsps.is_synced and not counting.session.is_full and counting.has_rows(lsp)
+        is_ready = counting.is_ours(lsp) and counting.lsps.is_synced and not counting.session.is_full and counting.placing.has_rows(lsp)
         return is_ready and lsp.is_willing(self.front.clock()) and number in self.book.on_link.get(key, ())
 
 

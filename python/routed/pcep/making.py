@@ -10,8 +10,8 @@ from ..model import rows
 from ..model.rows import Reply
 from ..net.loop import Owner
 from . import wire
-from .counting import BY_SEGMENTS, constraints_of
 from .lsp import ADMIN, CREATED, DELEGATED, Lsp
+from .placing import BY_SEGMENTS, constraints_of
 from .protocol import SessionFront
 from .requests import Request
 from .wire import pack

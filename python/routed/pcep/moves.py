@@ -18,7 +18,7 @@ from .routes import Route, has_labels, plain, route_of, says
 from .wire import Refused
 
 if typing.TYPE_CHECKING:
-    from .counting import Placing
+    from .placing import Move
     from .lsps import Lsps
 
 BUSY_AGAIN = 1  # seconds from an ask that no connection could take to the next
@@ -35,8 +35,9 @@ class Moves:
     def again(self) -> None:
         """A new version. The book asks for LSPs that it counts where its base is another one."""
         if self.lsps.is_synced:
-            counts = self.lsps.counting.counts
-            self.waiting.update(dict.fromkeys(lsp for lsp in self.lsps.all.values() if not counts(lsp)))
+            counting = self.lsps.counting
+            if len(counting.owners) < len(self.lsps.all):
+                self.waiting.update(dict.fromkeys(lsp for lsp in self.lsps.all.values() if not counting.counts(lsp)))
             self.front.in_turn(self)
 
     def ask(self, lsp: Lsp) -> None:
@@ -189,7 +190,7 @@ class Moves:
         if lsp.id is None:
             self.lose(lsp, why)
         elif why != "none" or not self.lsps.counting.is_booked(lsp) or self.front.network.cost(asked, self.route_of(lsp) or ()) is None:
-            self.lsps.counting.without(lsp, why)
+            self.lsps.counting.placing.without(lsp, why)
 
     def reason(self, lsp: Lsp, had: int | None, is_broken: bool) -> str:
         """Why an LSP is moved, in a word."""
@@ -251,10 +252,10 @@ class Moves:
         """Sends an update, unless it has to wait, or the LSP has to be counted there first."""
         if not self.may_move(lsp, ero, answer, is_broken, is_try):
             return
-        if lsp.id is None or self.lsps.counting.has(lsp, answer):
+        if lsp.id is None or self.lsps.counting.placing.has(lsp, answer):
             self.send(lsp, ero, why, answer, is_broken, is_try)
         else:
-            self.lsps.counting.place(lsp, why, is_broken, is_try, answer if lsp.is_excluding else None)
+            self.lsps.counting.placing.place(lsp, why, is_broken, is_try, answer if lsp.is_excluding else None)
 
     def may_move(self, lsp: Lsp, ero: bytes, answer: Reply, is_broken: bool, is_try: bool) -> bool:
         """Whether an update may be sent now. One for a route that its PCC kept, and that is lost now, doesn't wait."""
@@ -276,13 +277,13 @@ class Moves:
         asked = lsp.asked()
         return asked.attributes + wire.metric(wire.TE_METRIC, answer.cost, is_computed=True) + asked.behind
 
-    def placed(self, lsp: Lsp, ero: bytes, answer: Reply, placing: Placing) -> None:
+    def placed(self, lsp: Lsp, ero: bytes, answer: Reply, move: Move) -> None:
         """An LSP is counted on a route, and is moved there, unless it is there or on its way."""
         sent, body = lsp.pending, ero[4:]
-        is_there = sent.ero == body if sent else bool(self.is_same(lsp, body, answer.fars)) and not placing.is_try
+        is_there = sent.ero == body if sent else bool(self.is_same(lsp, body, answer.fars)) and not move.is_try
         self.found(lsp)
-        if (lsp.has_changed or not is_there) and self.may_move(lsp, ero, answer, placing.is_broken, placing.is_try):
-            self.send(lsp, ero, placing.why, answer, placing.is_broken, placing.is_try)
+        if (lsp.has_changed or not is_there) and self.may_move(lsp, ero, answer, move.is_broken, move.is_try):
+            self.send(lsp, ero, move.why, answer, move.is_broken, move.is_try)
 
     def send(self, lsp: Lsp, ero: bytes, why: str, answer: Reply, is_broken: bool, is_try: bool) -> None:
         now, body, sent = self.front.clock(), ero[4:], lsp.last

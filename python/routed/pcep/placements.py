@@ -3,9 +3,8 @@ from __future__ import annotations
 
 import collections
 import re
-from collections.abc import Callable, Iterator
-from dataclasses import dataclass
-from typing import Optional, Protocol
+from collections.abc import Callable
+from typing import Optional
 
 from ..follow.slices import Slices
 from ..model.books import PRIORITIES
@@ -14,6 +13,7 @@ from ..net.endpoints import CONNECT, Endpoint
 from ..net.loop import READ, WRITE, Loop, Owner
 from ..net.stream import Stream
 from .network import Network
+from .placement import Hearer, Placement, hexadecimal
 from .routes import links_of
 
 AGAIN = 1  # seconds from one try to connect to the next
@@ -21,54 +21,6 @@ SILENT = 60  # seconds that a row or the text of the book may take: then it is c
 LONGEST = 1 << 20  # bytes of a line that has no end yet
 NEWS = re.compile(r"(over|lost|base) ([0-9.]+)(?:,([0-9.]+))?(?: v?([0-9]+))?")
 Call = Callable[[Optional[str]], object]  # gets the line of a row; None where none comes
-
-
-@dataclass(frozen=True)
-class Placement:
-    """What the book counts under an id: the fields of its row from `from` to `hops`, and its route as a `held` row has it."""
-
-    constraints: str
-    route: str
-
-    @property
-    def hold(self) -> int:
-        return int(self.constraints.split(",", 3)[2])
-
-    @property
-    def bandwidth(self) -> int:
-        return int(self.constraints.split(",", 4)[3])
-
-    def keys(self) -> Iterator[Key]:
-        at, data = self.constraints.partition(",")[0], bytes.fromhex(self.route)
-        for begin in range(0, len(data), 8):
-            local, there = (".".join(map(str, data[here:here + 4])) for here in (begin, begin + 4))
-            yield at, local
-            at = there
-
-
-class Hearer(Protocol):
-    """Who hears of the book."""
-
-    def say(self, level: str, text: str) -> None:
-        """Writes a line of the log."""
-
-    def clock(self) -> float:
-        """The time in seconds."""
-
-    def book_is_known(self) -> None:
-        """The book was read: rows may be sent."""
-
-    def lost_placements(self, ids: list[int]) -> None:
-        """A batch of the base is accepted, by which these placements have lost their routes."""
-
-    def exceeded(self, key: Key) -> None:
-        """More may be counted on a link than it has."""
-
-    def more_may_move(self) -> None:
-        """There are more LSPs that can be moved."""
-
-    def settled(self, number: int, has_room: bool) -> None:
-        """A placement has a route, or is released. There may be more room somewhere then."""
 
 
 class Placements:
@@ -203,7 +155,7 @@ class Placements:
         elif kind == "held":
             number, _, rest = rest.partition(",")
             constraints, _, route = rest.rpartition(",")
-            self.put(int(number), Placement(constraints, route))
+            self.put(int(number), Placement.of(constraints, route))
         elif kind in ("node", "end") or line.startswith("run "):
             return
         elif line.startswith("version "):
@@ -251,11 +203,11 @@ class Placements:
             self.network.reach(reply.version)
             head = rest.partition(",")[0]
             links = links_of(self.network, head, reply.fars)
-            self.put(int(name), Placement(rest, hexadecimal(links) if links else ""), line)
+            self.put(int(name), Placement.of(rest, hexadecimal(links) if links else ""), line)
             self.hearer.settled(int(name), True)
         elif kind == "held" and line.startswith(f"held {name} v"):
             constraints, _, route = rest.rpartition(",")
-            self.put(int(name), Placement(constraints, route), line)
+            self.put(int(name), Placement.of(constraints, route), line)
             self.hearer.settled(int(name), False)
         elif kind == "release" and line in (f"release {name} refused: absent",) or line.startswith(f"released {name} v"):
             self.drop(int(name))
@@ -324,8 +276,3 @@ class Placements:
             if not waiting:
                 del self.after[number]
             call()
-
-
-def hexadecimal(links: list[Link]) -> str:
-    """A route as a `held` row has it."""
-    return "".join(bytes(int(part) for address in (link.local, link.neighbor) for part in address.split(".")).hex() for link in links)
