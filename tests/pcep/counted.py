@@ -192,6 +192,36 @@ def circuits(checks, room):
     checks.same("it has what it needs again", said(front, "counted on it again"), ["10.0.0.2,10.2.4.2 has what is counted on it again"])
 
 
+def order(checks, room):
+    """Which of several lost placements has the room that there is, and which one goes from a link that has too little."""
+    for holds, first in (((7, 0), "b"), ((0, 7), "a"), ((3, 2), "b"), ((5, 5), None)):
+        front, pcc = with_lsps(room, *((name, "124", 6e7, 9, [lspa(setup=hold)]) for name, hold in zip("ab", holds)))
+        free = ",".join(["100000000"] * 8)
+        front.server.base("drop,10.0.0.2,10.2.4.2", f"put,10.0.0.1,10.1.3.1,10.0.0.3,10.1.3.3,100,0x1,{free}")
+        ids = {name: pcc.session.lsps.counting.id_of(name) for name in "ab"}
+        first = first or max(ids, key=ids.get)
+        checks.same(f"holding priorities {holds}: the most important lost one has the room", (front.server.routes()[ids[first]], len(pcc.told_)),
+                    (SOUTH, 1))
+    for holds, last in (((7, 0), "a"), ((0, 7), "b"), ((2, 3), "b"), ((5, 5), None)):
+        front, pcc = with_lsps(room, *((name, "124", 6e7, 9, [lspa(setup=hold)]) for name, hold in zip("ab", holds)), gain=100)
+        front.server.base(f"put,10.0.0.1,10.1.2.1,10.0.0.2,10.1.2.2,50,0x1,{free}")
+        last = last or min(ids, key=ids.get)
+        checks.same(f"holding priorities {holds}: the least important one goes", [it for it, route in front.server.routes().items() if route == SOUTH],
+                    [ids[last]])
+    front, pcc = with_lsps(room, ("a", "124", 6e7, 8), ("b", "124", 6e7, 8))
+    front.server.base(f"put,10.0.0.1,10.1.2.1,10.0.0.2,10.1.2.2,50,0x1,{free}")
+    checks.same("those that aren't delegated can't be moved away", [*front.server.routes().values()], [NORTH, NORTH])
+    front, pcc = with_lsps(room, ("a", "124", 6e7))
+    pcc.session.stop("it ends")
+    front.server.base("drop,10.0.0.2,10.2.4.2")
+    checks.same("without a session a lost one is placed where it may go", [*front.server.routes().values()], [SOUTH])
+    front.pccs.clear()
+    pcc = front.join()
+    pcc.have(1, "a", "124", 6e7)
+    pcc.end_sync()
+    checks.same("and is moved there when it is back", (pcc.told_, [*front.server.routes().values()]), ([(1, "34")], [SOUTH]))
+
+
 def refused(checks, room):
     """PCCs that refuse updates or don't answer, and rows that the server refuses."""
     front, pcc = with_lsps(room, ("a", "134", 1e6), gain=100)
@@ -375,5 +405,5 @@ def many(checks, room):
 
 def counted(program, checks):
     with tempfile.TemporaryDirectory() as room:
-        checks.parts_in(room, (three, reported, sessions, doubles, circuits, refused, made, constrained, hostile, many), checks)
+        checks.parts_in(room, (three, reported, sessions, doubles, circuits, order, refused, made, constrained, hostile, many), checks)
         checks.parts_in(room, (counts,), program, checks)
