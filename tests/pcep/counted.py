@@ -1,4 +1,5 @@
 """LSPs by segment routing that a book counts, against a place that tests/reference/books.py plays."""
+import os
 import struct
 import tempfile
 import time
@@ -6,11 +7,13 @@ import time
 from pcep.book_front import CountedFront, Server, ero_of
 from pcep.counted_runs import counts
 from pcep.played import CIRCUITS, lspa, metric, report, rows
+from reference.books import MOST_PLACEMENTS
 
 from routed.pcep import wire
 from routed.pcep.wanted import request_of
 from routed.pcep.wire import pack, tlv
 
+LSPS = int(os.environ.get("LSPS", "7000"))  # 70,000 are more than any book takes
 NORTH, SOUTH = ["10.0.0.2", "10.0.0.4"], ["10.0.0.3", "10.0.0.4"]
 
 
@@ -45,6 +48,10 @@ def three(checks, room):
     checks.same("three LSPs take two ways", sorted(front.server.routes().values()), [NORTH, NORTH, SOUTH])
     checks.same("one is told so", [route for _, route in pcc.told_], ["34"])
     checks.same("none is asked for by ask", front.asked, [])
+    front, pcc = with_lsps(room, ("b", "124", 1e8), gain=100)
+    pcc.have(2, "c", "124", 1e8)
+    checks.same("one that is reported later makes a link carry too much: at once one of them goes", sorted(front.server.routes().values()),
+                [NORTH, SOUTH])
     front, pcc = with_lsps(room, ("a", None, 1e6), ("b", None, 1e8), ("c", None, 1e8), ("d", None, 1e8))
     checks.same("of four without a path three are placed", sorted(front.server.routes().values()), [NORTH, NORTH, SOUTH])
     checks.same("the fourth is said to be uncounted", said(front, "uncounted"), ["10.0.0.1: LSP 'd' (4) is uncounted: none"])
@@ -147,7 +154,7 @@ def doubles(checks, room):
     checks.same("two names with one digest: the first is counted", [it.request["bandwidth"] for it in front.server.book.placements], [1000000])
     checks.same("the second is said to be uncounted", said(front, "uncounted"),
                 ["10.0.0.1: LSP 'b' (2) is uncounted: its id in the book, 720575944674246657, is that of 10.0.0.1: LSP 'a' (1)"])
-    checks.same("it isn't moved", pcc.told_, [])
+    checks.same("it isn't moved, and has no rows", (pcc.told_, kinds(front)), ([], ["book", "held", "offer"]))
     pcc.have(1, "long", "124", 1e6)
     checks.same("the first has another name: the second is counted", sorted((it.request["id"] & 255, it.request["bandwidth"])
                 for it in front.server.book.placements), [(1, 2000000), (4, 1000000)])
@@ -251,6 +258,24 @@ def refused(checks, room):
     checks.same("it isn't answered yet", list(front.server.routes().values()), [NORTH])
     front.pass_time(2)
     checks.true("it isn't answered in time: the old one is counted, and the same is tried again later", len(pcc.told_) <= 2, pcc.told_)
+    for name, hops in (("what it had before", "134"), ("nothing", None)):
+        front = begun(room)
+        pcc = front.join()
+        pcc.session.lsps.counting.placing.fault = lambda *_: "a link of its path has no SID"
+        pcc.have(1, "a", hops, 1e6)
+        pcc.end_sync()
+        rows_sent = kinds(front)
+        checks.same(f"placed, and it can't be sent: {name} is counted again",
+                    ([*front.server.routes().values()], rows_sent[rows_sent.index("place"):][:2], pcc.told_),
+                    ([SOUTH] if hops else [], ["place", "release"], []))
+    front = begun(room)
+    pcc = front.join()
+    number = pcc.session.lsps.counting.id_of("a")
+    front.server.take([f"held,{number},10.0.0.1,10.0.0.4,7,5,0x0,0x0,0x0,,0a0102010a0000020a0204020a000004"])
+    front.server.fields[number] = "10.0.0.1,10.0.0.4,7,5,0x00000000,0x00000000,0x00000000,"
+    pcc.have(1, "a", "134", 1e6, 8)
+    front.pass_time(1)
+    checks.same("a placement that somebody else has made is replaced", [*front.server.routes().values()], [SOUTH])
     for word in ("exhausted", "stopped", "full"):
         front = begun(room)
         front.server.refusing = {"held": word, "place": word, "offer": word}
@@ -366,7 +391,7 @@ def hostile(checks, room):
 class Full(Server):
     """A server of few words, with room for some LSPs."""
 
-    room = 65536
+    room = MOST_PLACEMENTS * LSPS // 70000
 
     def answer(self, row):
         kind, name, *_ = row.split(",", 2)
@@ -383,24 +408,23 @@ class Full(Server):
 
 
 def many(checks, room):
-    """70,000 LSPs of 18 PCCs, of which the book has room for 65,536."""
+    """LSPs of several PCCs, and a book that has no room for some of them."""
     front = begun(room)
     front.server.__class__ = Full
     began, slowest = time.monotonic(), 0.0
-    for router in range(1, 19):
+    for router in range(1, 1 + LSPS // 3500):
         pcc = front.join(router)
-        for first in range(1, 4000, 100):
-            if router < 18 or first < 2000:
-                pcc.say(b"".join(wire.message(10, *report(number, 8, ero_of("124"), b"%d" % number, 0, 1, ends=(1, 4)))
-                                 for number in range(first, first + 100)))
+        for first in range(1, 3500, 100):
+            pcc.say(b"".join(wire.message(10, *report(number, 8, ero_of("124"), b"%d" % number, 0, 1, ends=(1, 4)))
+                             for number in range(first, first + 100)))
         while front.server.sent or front.placements.rows or any(at <= front.time for at, _ in front.laters):
             step = time.monotonic()
             front.pass_time(1)
             slowest = max(slowest, time.monotonic() - step)
-    checks.same("as many are counted as there is room for", len(front.placements.booked), 65536)
-    checks.same("the others are said to be uncounted", (len(said(front, "is uncounted")), len(said(front, "refused: full"))), (70000 - 65536,) * 2)
-    checks.same("each was asked for once", front.server.rows.count("held"), 70000)
-    print(f"counted: 70,000 LSPs in {time.monotonic() - began:.0f} s, {slowest:.2f} s at most at a time")
+    checks.same("as many are counted as there is room for", len(front.placements.booked), Full.room)
+    checks.same("the others are said to be uncounted", (len(said(front, "is uncounted")), len(said(front, "refused: full"))), (LSPS - Full.room,) * 2)
+    checks.same("each was asked for once", front.server.rows.count("held"), LSPS)
+    print(f"counted: {LSPS} LSPs in {time.monotonic() - began:.0f} s, {slowest:.2f} s at most at a time")
 
 
 def counted(program, checks):
