@@ -62,9 +62,9 @@ class PceChain(Chain):
         self.published(lambda: None)
         self.start_pce(0)
 
-    def run(self, tool, before, *words):
+    def run(self, tool, before, *words, said=None):
         """Starts a tool, and waits for its line `ready`."""
-        process = subprocess.Popen([*before, TOOLS, tool, *words], stdin=subprocess.DEVNULL, stdout=subprocess.PIPE,
+        process = subprocess.Popen([*before, TOOLS, tool, *words], stdin=subprocess.DEVNULL, stdout=subprocess.PIPE, stderr=said,
                                    text=True)
         for line in process.stdout:
             if line == "ready\n":

@@ -27,6 +27,7 @@ detect-multiplier 3
 BFD = ["ip ospf bfd", "ip ospf bfd profile lab"]
 HEAD, TAIL, PCE = 1, 6, 5  # the head-end, the end of its LSPs, and the router beside which the PCE runs
 LSPS = [("blue", 1_000_000), ("green", 2_500_000), ("red", 100_000_000)]  # of the head-end, and their bytes per second
+COUNTED = [("blue", 1_000_000), ("green", 100_000_000), ("red", 100_000_000)]  # where a book counts: two ways, or one is uncounted
 MADE = "gold", 1_000  # one that the PCE makes
 
 
@@ -78,10 +79,10 @@ def ospfd_conf(router, dead, has_bfd=False, has_pce=False):
                       *FAST_LSAS.splitlines() * (dead is not None), "exit", ""])
 
 
-def pathd_conf():
+def pathd_conf(lsps):
     """A policy with a dynamic candidate for each LSP: the PCE gives its path. What the PCE makes gets color 1."""
     lines = ["segment-routing", "traffic-eng"]
-    for color, (name, bandwidth) in enumerate(LSPS, 2):
+    for color, (name, bandwidth) in enumerate(lsps, 2):
         lines += [f"policy color {color} endpoint {router_id(TAIL)}", f"name {name}", "candidate-path preference 100 name lab dynamic",
                   f"bandwidth {bandwidth}", "exit", "exit"]
     return "\n".join([*lines, "pcep", "pce lab", f"address ip {router_id(PCE)}", f"source-address ip {router_id(HEAD)}",
@@ -115,7 +116,7 @@ def await_file(path, process, what, said=os.devnull):
 class Routers:
     """The running routers. Nothing ends them: they end with the process namespace that they are in."""
 
-    def __init__(self, dead, has_bfd, has_pce=False):
+    def __init__(self, dead, has_bfd, has_pce=False, lsps=LSPS):
         self.ospfd = {}
         for router in range(1, COUNT + 1):
             command("ip", "netns", "add", f"lab-{router}")
@@ -127,7 +128,7 @@ class Routers:
             self.link(b, a, "up")
         for router in range(1, COUNT + 1):
             daemons = [("zebra", zebra_conf(router), []), ("bfdd", BFDD_CONF, ["--bfdctl", f"{ROOM}/{router}/bfdd.sock"]),
-                       ("ospfd", ospfd_conf(router, dead, has_bfd, has_pce), ["-a"]), ("pathd", pathd_conf(), ["-M", "pathd_pcep"])]
+                       ("ospfd", ospfd_conf(router, dead, has_bfd, has_pce), ["-a"]), ("pathd", pathd_conf(lsps), ["-M", "pathd_pcep"])]
             left_out = {"bfdd": not has_bfd, "pathd": not has_pce or router != HEAD}
             self.start(router, [daemon for daemon in daemons if not left_out.get(daemon[0])])
 

@@ -3,9 +3,10 @@ tests/reference/books.py."""
 import copy
 import os
 import struct
+import tempfile
 import types
 
-from pcep.played import Front, Pcc, reply, report, request, told
+from pcep.played import CIRCUITS, Front, Pcc, reply, report, request, rows, told
 from reference import books, runs
 from reference.formats import address_text
 
@@ -16,6 +17,7 @@ from routed.pcep.session import UP, Session
 from routed.pcep.sids import Sids
 
 FULL = 125_000_000  # bytes per second of each circuit
+NORTH, SOUTH = ["10.0.0.2", "10.0.0.4"], ["10.0.0.3", "10.0.0.4"]  # the routers of the two ways from 1 to 4
 
 
 class Server:
@@ -233,7 +235,8 @@ class CountedPcc(Pcc):
 
     def tell(self, number, srp=0):
         it = self.lsps[number]
-        self.say(wire.message(10, *report(number, it["flags"], it["ero"], it["name"], srp, 1, it["more"], ends=it["ends"] or (self.router, 4))))
+        ends = it["ends"] or (self.router, 4)
+        self.say(wire.message(10, *report(number, it["flags"], it["ero"], it["name"], srp, 1, it["more"], ends=ends)))
         self.front.server.go_on()
         self.obey()
 
@@ -282,3 +285,33 @@ def ero_of(hops):
 
 def routers_of(ero):
     return "".join(hop.far[-1] for hop in wire.hops_of(ero))
+
+
+def begun(room, circuits=CIRCUITS, **options):
+    front = CountedFront(tempfile.mkdtemp(dir=room), circuits, **options)
+    front.server.base(*rows(circuits))
+    return front
+
+
+def with_lsps(room, *lsps, **options):
+    """A front, and a PCC that has reported LSPs from 1 on: of each its name, its routers and its bandwidth."""
+    front = begun(room, **options)
+    pcc = front.join()
+    for number, lsp in enumerate(lsps, 1):
+        pcc.have(number, *lsp)
+    pcc.end_sync()
+    return front, pcc
+
+
+def said(front, word):
+    return [text for text in front.said if word in text]
+
+
+def amounts(front):
+    """The bandwidths of placements."""
+    return sorted(it.request["bandwidth"] for it in front.server.book.placements)
+
+
+def kinds(front, since=0):
+    """The kinds of the rows that were sent."""
+    return [row.partition(",")[0] for row in front.server.rows[since:]]

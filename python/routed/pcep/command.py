@@ -4,8 +4,8 @@ A PCC's request becomes one `ask` row, and its reply line a path or NO-PATH. Wha
 its own. With --stateful, LSPs that PCCs delegate are asked again at each version, and moved where their best route is
 another one. docs/run/PCEP.md has what is taken from where, and what is refused.
 
-With --placements the server's book counts LSPs by segment routing. Nothing else is reserved: other LSPs may be placed on the same bandwidth.
-There is no sign-on but TCP-MD5 (--keys).
+With --placements the server's book counts LSPs by segment routing. Nothing else is reserved: other LSPs may be placed on the same
+bandwidth. There is no sign-on but TCP-MD5 (--keys).
 
 `ready` is printed once PCCs may connect. SIGHUP reads the files of --initiate and --allow again, SIGTERM and SIGINT end it: PCCs keep their
 LSPs. The status is 0 then, 2 where a word of the command line is refused, 3 where a socket or a file can't be had.

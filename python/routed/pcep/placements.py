@@ -113,8 +113,8 @@ class Placements:
     def away(self, why: str) -> None:
         if not self.is_said:
             self.is_said = True
-            self.hearer.say("error", f"the place of --placements: {why}: LSPs by segment routing aren't counted, and so none is moved or made, "
-                            "and requests for such paths are unavailable, until it is there again")
+            self.hearer.say("error", f"the place of --placements: {why}: until it is there again no LSP by segment routing is counted, "
+                            "moved or made, and requests for such paths are unavailable")
         self.loop.after(AGAIN, self.connect)
 
     def tick(self, now: float) -> None:

@@ -54,7 +54,8 @@ class Placing:
             self.lsps.moves.put(lsp)
             return None
         request, asked = lsp.asked(), self.asked(lsp)
-        return f"offer,{number},{constraints_of(request, asked)}", functools.partial(self.offered, lsp, request, replace(asked, bandwidth=0))
+        call = functools.partial(self.offered, lsp, request, replace(asked, bandwidth=0))
+        return f"offer,{number},{constraints_of(request, asked)}", call
 
     def asked(self, lsp: Lsp) -> rows.Request:
         """What is asked for an LSP that is ours."""
