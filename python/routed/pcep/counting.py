@@ -26,13 +26,15 @@ from .wire import Refused
 
 if typing.TYPE_CHECKING:
     from .lsps import Lsps
+    from .session import Session
 
 AWAY = "the place of --placements isn't there"
 
 
 class Counting:
     def __init__(self, lsps: Lsps):
-        self.lsps, self.session = lsps, lsps.session
+        self.lsps = lsps
+        self.session: Session = lsps.session
         self.front: SessionFront = lsps.front
         self.address = int.from_bytes(socket.inet_aton(self.session.peer), "big")
         self.owners: dict[int, Lsp] = {}  # by their ids in the book
