@@ -1,4 +1,5 @@
 """LSPs by segment routing that a book counts, against a place that tests/reference/books.py plays."""
+import os
 import struct
 import tempfile
 
@@ -60,7 +61,10 @@ def reported(checks, room):
     checks.same("and not told", pcc.told_[1:], [(5, "24")])
     pcc.have(6, "e", None, 1e6, ends=(1, 1), flags=8)
     checks.same("one without two ends is uncounted", said(front, "uncounted"),
-                ["10.0.0.1: LSP 'e' (6) is uncounted: its ends aren't known, or are the same"])
+                ["10.0.0.1: LSP 'e' (6) is uncounted: its ends or its bandwidth can't be read"])
+    pcc.have(7, "f", "124", float("inf"), flags=8)
+    checks.same("nor is one of endless bandwidth counted", said(front, "(7) is uncounted"),
+                ["10.0.0.1: LSP 'f' (7) is uncounted: its ends or its bandwidth can't be read"])
     for flags in (8, 13):
         pcc.say(wire.message(10, pack(32, struct.pack("!I", 2 << 12 | flags) + tlv(17, b"b")), pack(7, b"")))
     front.server.go_on()
@@ -112,6 +116,48 @@ def sessions(checks, room):
     checks.same("no circuit carries more than it has, ever", front.server.over, [])
 
 
+def unproved(checks, room):
+    """A journal that isn't the server's, or not yet: no route is read by it."""
+    front = begun(room)
+    pcc = front.join()
+    pcc.end_sync()
+    os.rename(front.journal, front.journal + "x")
+    front.network.begin()
+    front.server.hang_up()
+    front.pass_time(1)
+    pcc.have(1, "a", "134", 1e6, flags=8)
+    checks.same("without the journal no route is counted", (front.server.routes(), said(front, "is uncounted")),
+                ({}, ["10.0.0.1: LSP 'a' (1) is uncounted: the journal isn't known to be the server's"]))
+    os.rename(front.journal + "x", front.journal)
+    front.pass_time(3)
+    checks.same("once it is there the route is", [*front.server.routes().values()], [SOUTH])
+    front.network.begin()
+    pcc.have(2, "b", "134", 1e6)
+    checks.same("an offer says whose journal it is, too", sorted(front.server.routes().values()), [NORTH, SOUTH])
+
+
+def unreleased(checks, room):
+    """A release that the server refuses, and an LSP that is another PCC's."""
+    front, pcc = with_lsps(room, ("a", "124", 1e6))
+    front.server.refusing = {"release": "stopped"}
+    pcc.remove(1)
+    checks.same("a release that is refused is said",
+                (len(front.server.routes()), len(said(front, "refused: stopped: bandwidth is counted"))), (1, 1))
+    front.server.refusing = {}
+    front.server.base(*rows([(1, 3, 100)]))
+    checks.same("and tried again at the next base", front.server.routes(), {})
+    front, pcc = with_lsps(room)
+    front.owned = True
+    pcc.have(1, "a", "124", 1e6)
+    checks.same("one that another PCC has delegated is given back, and counted for that PCC alone", (kinds(front), pcc.told_),
+                (["book"], [(1, "24")]))
+    pcc.have(1, "a", "124", 1e6, flags=8)
+    checks.same("also once it isn't delegated", kinds(front), ["book"])
+    front.owned = False
+    pcc.have(1, "a", "124", 1e6)
+    checks.same("it is counted once it is this PCC's", kinds(front)[1:2], ["held"])
+
+
 def doubles(checks, room):
     """Two names with one digest, and one name twice."""
     front = begun(room)
@@ -137,5 +183,5 @@ def doubles(checks, room):
 
 def counted(program, checks):
     with tempfile.TemporaryDirectory() as room:
-        checks.parts_in(room, (three, reported, sessions, doubles, *MOVES, hostile, many), checks)
+        checks.parts_in(room, (three, reported, sessions, unproved, unreleased, doubles, *MOVES, hostile, many), checks)
         checks.parts_in(room, (counts,), program, checks)

@@ -14,7 +14,7 @@ from ..follow.slices import Form
 from ..model import rows
 from ..model.rows import Reply
 from ..net.loop import Owner
-from .lsp import TAKEN, Lsp
+from .lsp import Lsp
 from .placement import Placement, hexadecimal
 from .placements import Placements
 from .placing import BY_SEGMENTS, Placing, constraints_of
@@ -22,7 +22,7 @@ from .protocol import SessionFront
 from .reports import Report
 from .requests import Request
 from .routes import fars_of, links_of, walk
-from .wire import Refused
+from .wire import O_BANDWIDTH, Refused
 
 if typing.TYPE_CHECKING:
     from .lsps import Lsps
@@ -41,6 +41,7 @@ class Counting:
         self.others: dict[int, dict[Lsp, None]] = {}  # those with the id of an owner, which aren't counted
         self.waiting: dict[Lsp, None] = {}  # those that are looked at, in the order of their turns
         self.lacking: dict[Lsp, None] = {}  # those that the book lacks, or that have no route
+        self.unreleased: dict[int, None] = {}  # ids that the server didn't release
         self.placing: Placing = Placing(self)
 
     @property
@@ -54,7 +55,7 @@ class Counting:
 
     def counts(self, lsp: Lsp) -> bool:
         """Whether an LSP is to be counted. One that another PCC has delegated is counted for that PCC."""
-        return self.is_on(lsp.setup_type) and (lsp.fault is None or lsp.fault.args != TAKEN)
+        return self.is_on(lsp.setup_type) and not lsp.is_taken
 
     def id_of(self, name: str) -> int:
         """The id of an LSP: it is as old as its name, and each PCC has its own."""
@@ -110,7 +111,14 @@ class Counting:
     def let_go(self, number: int) -> None:
         is_wanted = number in self.owners or number in self.lsps.making.placed
         if self.session.state == "up" and number in self.book.booked and not is_wanted:
-            self.book.give(f"release,{number}", lambda _: None, self.session.owner)
+            self.book.give(f"release,{number}", functools.partial(self.released, number), self.session.owner)
+
+    def released(self, number: int, line: str | None) -> None:
+        """A row that the server refuses is sent again once the base is another one."""
+        self.unreleased.pop(number, None)
+        if line is not None and number in self.book.booked:
+            self.unreleased[number] = None
+            self.front.say("error", f"{self.session.peer}: {line}: bandwidth is counted of an LSP that isn't there")
 
     def miss(self, lsp: Lsp, why: str) -> None:
         """The book lacks an LSP, which is said once."""
@@ -129,6 +137,8 @@ class Counting:
 
     def again(self) -> None:
         """The base has changed, or more than that: each LSP is looked at."""
+        for number in [*self.unreleased]:
+            self.release(number)
         self.ask(*self.owners.values())
 
     def look_for_room(self, is_time: bool, tried: Container[int | None]) -> None:
@@ -181,7 +191,10 @@ class Counting:
         """The row by which the book has an LSP as its PCC does. One that is being moved or removed stays as the book has it."""
         request, booked = self.request_of(lsp), self.book.booked.get(number)
         if request is None:
-            self.miss(lsp, "its ends aren't known, or are the same")
+            self.miss(lsp, "its ends or its bandwidth can't be read")
+            return None
+        if booked is None and not self.front.network.is_proved:
+            self.miss(lsp, "the journal isn't known to be the server's")
             return None
         asked = request.asked(self.session.group(BY_SEGMENTS))
         constraints, (route, is_usable) = constraints_of(request, asked), self.route_of(lsp, asked)
@@ -191,7 +204,7 @@ class Counting:
         if booked is None:
             return None if lsp.is_ours() else self.estimate(lsp, number, constraints)
         self.found(lsp)
-        if lsp.pending or lsp.is_leaving or lsp.has_changed:
+        if lsp.pending or lsp.is_leaving or lsp.has_changed or not self.front.network.is_proved:
             return None
         if booked != wanted and not lsp.may_swap(now := self.front.clock()):
             self.lsps.wake(lsp, now + 1)
@@ -229,7 +242,8 @@ class Counting:
             try:
                 request.take(constraint._replace(must=False))
             except Refused:
-                continue
+                if constraint.kind == O_BANDWIDTH:
+                    return None
         request.ends = self.lsps.routers(lsp.report.ends or self.lsps.ends_by_route(lsp.report))
         return request if request.ends[0] != request.ends[1] else None
 

@@ -65,6 +65,10 @@ class Displaced:
             self.front.loop.call(counting.session.owner, counting.known)
         self.lose([number for number in lost if number in self.book.booked])
 
+    def network_is_proved(self) -> None:
+        for counting in self.front.countings():
+            self.front.loop.call(counting.session.owner, counting.again)
+
     def lost_placements(self, ids: list[int]) -> None:
         """Those without a route go first, and then each LSP may have a better one."""
         self.lose(ids)

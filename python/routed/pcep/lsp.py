@@ -66,6 +66,7 @@ class Lsp:
         self.is_unknown = False  # its route can't be read
         self.is_asked, self.is_returned = False, False
         self.fault: Refused | None = None  # why it is given back
+        self.is_taken = False  # another PCC has delegated it, too, and it is that PCC's
         self.is_made, self.has_changed = False, False  # a line of --initiate has made it; that has changed since
         self.is_leaving, self.removal = False, 0  # it is to be removed, and the SRP of that
         self.id: int | None = None  # of the book, if it is counted there

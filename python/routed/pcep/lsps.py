@@ -182,7 +182,7 @@ class Lsps:
         except Refused as fault:
             self.give_back(lsp, fault)
             return None
-        lsp.is_returned = False
+        lsp.is_returned = lsp.is_taken = False
         return request
 
     def read(self, lsp: Lsp, one: Report) -> Request:
@@ -231,6 +231,7 @@ class Lsps:
         lsp.is_returned = True
         self.front.count("moves", "given back")
         kind, value = fault.args
+        lsp.is_taken = fault.args == TAKEN
         self.front.say("warning", f"{self.named(lsp)} is given back to its PCC: {kind}/{value}, {FAULTS.get((kind, value), 'unsupported')}")
         self.drop_updates(lsp)
         self.update(lsp, pack(wire.O_ERO, lsp.ero if len(lsp.ero) + 60 <= wire.MOST else b""), 0, b"")

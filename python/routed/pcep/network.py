@@ -64,11 +64,11 @@ class Network(Followed):
             self.doubt(self.tail)
         return self.version == version and not self.is_doubted
 
-    def compare(self, version: int, links: Mapping[Key, Link]) -> None:
-        """These are the links of the server's network of a version, whatever is unreserved on them: so it is known whether the journal is
-        the server's. At a later version replies have said so."""
+    def compare(self, version: int, links: Mapping[Key, Link]) -> bool:
+        """These are the links of the server's network of a version, whatever is unreserved on them. Whether the journal is known to be the
+        server's by them, or by replies of a later version."""
         if self.tail is None or self.version > version:
-            return
+            return self.is_proved
         is_there = self.reach(version)
         mine = {key: row for key, row in self.rows.items() if isinstance(row, Link)} if is_there else {}
         if is_there and len(mine) == len(links) and all(
@@ -76,6 +76,7 @@ class Network(Followed):
             self.is_proved, self.is_doubted = True, False
         else:
             self.doubt(self.tail)
+        return self.is_proved
 
     # ---- routes
 

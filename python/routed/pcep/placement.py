@@ -48,6 +48,9 @@ class Hearer(Protocol):
     def book_is_known(self) -> None:
         """The book was read: rows may be sent."""
 
+    def network_is_proved(self) -> None:
+        """It is known now that the journal is that of the server: routes can be read."""
+
     def lost_placements(self, ids: list[int]) -> None:
         """A batch of the base is accepted, by which these placements have lost their routes."""
 

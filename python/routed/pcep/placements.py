@@ -44,6 +44,7 @@ class Placements:
         self.booked, self.on_link, self.lost = {}, {}, []
         self.links: dict[Key, Link] = {}  # of the base, while the book is read
         self.version: int | None = None  # of the book that is read
+        self.unproved: tuple[int, dict[Key, Link]] | None = None  # its version and the links of its base, until the journal has these
         self.base = 0  # the version of the newest base
 
     # ---- the connection
@@ -119,6 +120,9 @@ class Placements:
 
     def tick(self, now: float) -> None:
         """Each second: nothing is waited for without an end."""
+        if self.unproved and (self.network.is_proved or self.network.compare(*self.unproved)):
+            self.unproved = None
+            self.hearer.network_is_proved()
         if self.stream and (self.rows or not self.is_known) and now - self.heard_at > SILENT:
             self.end(f"nothing came for {SILENT} s")
 
@@ -167,8 +171,8 @@ class Placements:
 
     def known(self, version: int) -> None:
         """The whole book was read."""
-        self.network.compare(version, self.links)
         links, self.links = self.links, {}
+        self.unproved = None if self.network.compare(version, links) else (version, links)
         self.is_known, self.is_said, self.base = True, False, version
         self.hearer.say("info", f"the book has {len(self.booked)} placements at version {version}")
         crowded = [key for key, ids in self.on_link.items() if key in links and self.is_over(links[key], ids)]

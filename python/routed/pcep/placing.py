@@ -87,11 +87,13 @@ class Placing:
     def offered(self, lsp: Lsp, request: Request, asked: rows.Request, line: str | None) -> None:
         if line is None or not self.counting.is_ours(lsp) or self.session.is_overloaded():
             return
-        answer = Reply.parse(line)
+        answer, was_proved = Reply.parse(line), self.front.network.is_proved
         if request is not lsp.request:
             self.counting.ask(lsp)
         elif answer:
             self.lsps.moves.judge(lsp, asked, answer)
+            if self.front.network.is_proved and not was_proved:
+                self.counting.again()
         else:
             self.without(lsp, line)
         request.exclusions.settle()
