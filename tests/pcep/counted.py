@@ -100,6 +100,8 @@ def sessions(checks, room):
     checks.same("without the place nothing is sent", (kinds(front, since), front.placements.is_known), ([], False))
     checks.same("what is reported is uncounted", said(front, "(9) is uncounted"),
                 ["10.0.0.1: LSP 'd' (9) is uncounted: the place of --placements isn't there"])
+    pcc.session.again()
+    checks.same("of those that the book had no line says so", len(said(front, "the place of --placements isn't there")), 1)
     checks.same("it is said once", len(said(front, "the place of --placements: ")), 1)
     checks.same("a request for such a path is unavailable", pcc.ask_for(), "NO-PATH 1")
     front.pass_time(1)

@@ -79,7 +79,7 @@ class Counting:
 
     def gone(self, lsp: Lsp) -> None:
         """An LSP is removed, or isn't counted under its id any more. Another one may have the id then."""
-        number, lsp.id, lsp.uncounted = lsp.id, None, ""
+        number, lsp.id, lsp.uncounted, lsp.is_counted = lsp.id, None, "", False
         self.lacking.pop(lsp, None)
         if number is None:
             return
@@ -122,13 +122,14 @@ class Counting:
 
     def miss(self, lsp: Lsp, why: str) -> None:
         """The book lacks an LSP, which is said once."""
-        self.lacking[lsp] = None
+        self.lacking[lsp], lsp.is_counted = None, False
         if lsp.uncounted != why:
             lsp.uncounted = why
             self.front.say("error", f"{self.lsps.named(lsp)} is uncounted: {why}")
 
     def found(self, lsp: Lsp) -> None:
         """The book has an LSP."""
+        lsp.is_counted = True
         if lsp.uncounted:
             lsp.uncounted = ""
             self.front.say("warning", f"{self.lsps.named(lsp)} is counted now")
@@ -178,7 +179,8 @@ class Counting:
         if self.session.state != "up" or lsp.id is None or self.owners.get(lsp.id) is not lsp:
             return None
         if not self.book.is_known:
-            self.miss(lsp, AWAY)
+            if not lsp.is_counted:  # others are said to be there by one line for all
+                self.miss(lsp, AWAY)
             return None
         if lsp.id in self.book.busy:
             self.book.turn(lsp.id, "look", functools.partial(self.ask, lsp))

@@ -126,14 +126,15 @@ class Displaced:
             self.front.loop.after(AGAIN, self.again, self.book)
 
     def place(self, number: int, why: str, then: Callable[[], object]) -> None:
-        """Places again. An LSP that is the front's to move is moved there; for others that is kept where they might go."""
+        """Places again. An LSP that is the front's to move is moved there. Of others that have lost their routes the bandwidth is kept where
+        they may go; others that carry traffic stay counted where they are."""
         counting, lsp = self.lsp_of(number) or (None, None)
         if counting and lsp and counting.is_ours(lsp):
             if counting.placing.has_rows(lsp):
                 counting.placing.displace(lsp, why)
             else:
                 counting.ask(lsp)
-        elif placement := self.book.booked.get(number):
+        elif why == "lost" and (placement := self.book.booked.get(number)):
             self.book.give(f"place,{number},{placement.constraints}", lambda _: None, None)
         self.book.turn(number, why, then)
 

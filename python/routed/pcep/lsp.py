@@ -72,6 +72,7 @@ class Lsp:
         self.id: int | None = None  # of the book, if it is counted there
         self.report: Report | None = None  # the last one, if it is counted
         self.uncounted = ""  # why the book lacks it
+        self.is_counted = False  # the book had it when it was looked at last
         self.is_excluding = False  # the answer that moves it was to a row that excludes links
         self.swaps: list[float] = []  # when it was counted elsewhere without being moved, in the last seconds
 

@@ -225,13 +225,14 @@ class Lsps:
 
     def give_back(self, lsp: Lsp, fault: Refused) -> None:
         """Returns the delegation, once (RFC 8231 5.7.3), and no sooner than its PCC has reported all LSPs."""
-        lsp.fault = fault
+        lsp.fault, lsp.is_taken = fault, fault.args == TAKEN
+        if lsp.is_taken:
+            self.counting.gone(lsp)
         if lsp.is_returned or not self.is_synced:
             return
         lsp.is_returned = True
         self.front.count("moves", "given back")
         kind, value = fault.args
-        lsp.is_taken = fault.args == TAKEN
         self.front.say("warning", f"{self.named(lsp)} is given back to its PCC: {kind}/{value}, {FAULTS.get((kind, value), 'unsupported')}")
         self.drop_updates(lsp)
         self.update(lsp, pack(wire.O_ERO, lsp.ero if len(lsp.ero) + 60 <= wire.MOST else b""), 0, b"")
