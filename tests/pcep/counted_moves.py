@@ -71,6 +71,16 @@ def order(checks, room):
     pcc.have(1, "a", "124", 6e7)
     pcc.end_sync()
     checks.same("and is moved there when it is back", (pcc.told_, [*front.server.routes().values()]), ([(1, "34")], [SOUTH]))
+    front, pcc = with_lsps(room, ("a", "134", 6e7), gain=100)
+    pcc.session.stop("it ends")
+    front.pccs.clear()
+    pcc = front.join()
+    pcc.have(1, "a", "134", 6e7)
+    front.server.base("drop,10.0.0.3,10.3.4.3")
+    checks.same("lost before the end of the synchronization: nothing is told", pcc.told_, [])
+    pcc.end_sync()
+    front.pass_time(1)
+    checks.same("and behind it", (pcc.told_, [*front.server.routes().values()]), ([(1, "24")], [NORTH]))
 
 
 def refused(checks, room):

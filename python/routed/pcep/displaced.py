@@ -130,10 +130,10 @@ class Displaced:
         they may go; others that carry traffic stay counted where they are."""
         counting, lsp = self.lsp_of(number) or (None, None)
         if counting and lsp and counting.is_ours(lsp):
-            if counting.placing.has_rows(lsp):
-                counting.placing.displace(lsp, why)
-            else:
+            if not counting.placing.has_rows(lsp):
                 counting.ask(lsp)
+            elif counting.lsps.is_synced and not counting.session.is_full:
+                counting.placing.displace(lsp, why)
         elif why == "lost" and (placement := self.book.booked.get(number)):
             self.book.give(f"place,{number},{placement.constraints}", lambda _: None, None)
         self.book.turn(number, why, then)
@@ -144,12 +144,14 @@ class Displaced:
         if self.is_going:  # one was tried at once
             return
         self.is_going = True
-        while self.waiting and len(self.trying) < AT_ONCE and self.book.is_known:
-            number = next(iter(self.waiting))
-            del self.waiting[number]
-            self.trying.add(number)
-            self.book.turn(number, "lost", functools.partial(self.try_one, number))
-        self.is_going = False
+        try:
+            while self.waiting and len(self.trying) < AT_ONCE and self.book.is_known:
+                number = next(iter(self.waiting))
+                del self.waiting[number]
+                self.trying.add(number)
+                self.book.turn(number, "lost", functools.partial(self.try_one, number))
+        finally:
+            self.is_going = False
 
     def try_one(self, number: int) -> None:
         if number in self.lost:
