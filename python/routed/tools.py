@@ -32,6 +32,7 @@ TOOLS = {
     "join": (".sweep.join", "one sweep of its parts"),
     "draw": (".pictures.draw", "a picture of a network, with the routes of replies"),
     "draw-failures": (".pictures.draw_failures", "a picture of what circuits' failures do"),
+    "draw-circuit": (".pictures.draw_circuit", "a picture of what a link has left from version to version, and of the replies that use it"),
     "import": (".imports.importer", "rows of a network in the format of SNDlib, or in GraphML"),
     "completion": (".completion", "what bash, zsh or fish need to complete the words of routed-tools"),
     "why": (".why", "three small networks, asked of FRR's cspf and of `routed solve`"),

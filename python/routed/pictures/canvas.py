@@ -82,8 +82,8 @@ def text_in(box: Box, text: str, kind: str, size: int = TEXT, color: str = "") -
     return f'<text class="{kind}" x="{x:.1f}" y="{y:.1f}"{style}>{shown(text)}</text>'
 
 
-def picture(title: str, wide: int, high: int, drawn: Iterable[str], notes: Iterable[Note]) -> list[str]:
-    """The picture's lines, with the notes of the legend below what is drawn."""
+def picture(title: str, wide: int, high: int, drawn: Iterable[str], notes: Iterable[Note], desc: str = "") -> list[str]:
+    """The picture's lines, with the notes of the legend below what is drawn. A description is for readers who don't see it."""
     legend, y = [], high
     for sample, text in notes:
         if sample:
@@ -92,5 +92,6 @@ def picture(title: str, wide: int, high: int, drawn: Iterable[str], notes: Itera
             legend.append(f'<text class="note" x="70" y="{y + LINE / 2 + TEXT * ASCENT / 2 - 2:.1f}">{shown(part)}</text>')
             y += LINE
     return [f'<svg xmlns="http://www.w3.org/2000/svg" viewBox="0 0 {wide} {y + 10}" width="{wide}" role="img">',
-            f"<title>{shown(title)}</title>", f"<style>{STYLE}</style>", f'<rect width="{wide}" height="{y + 10}" fill="#fff"/>',
+            f"<title>{shown(title)}</title>", *([f"<desc>{shown(desc)}</desc>"] if desc else []), f"<style>{STYLE}</style>",
+            f'<rect width="{wide}" height="{y + 10}" fill="#fff"/>',
             *drawn, *legend, "</svg>"]

@@ -67,7 +67,8 @@ def walks_of(database: Database, reply: Reply | None, line: str) -> list[list[Li
     if not reply or reply.why:
         raise ValueError(f"no route in the reply: {line}")
     first, *others = reply.fars
-    walks = [[link] for link in database.links() if link.remote == first and not database.why_not(link, ANY, False)]
+    firsts = [link for (_, far), links in database.towards.items() if far == first for link in links.values()]
+    walks = [[link] for link in sorted(firsts, key=lambda link: rank(link.key)) if not database.why_not(link, ANY, False)]
     for far in others:
         walks = [[*walk, link] for walk in walks
                  for link in sorted(database.usable(walk[-1].neighbor, far, ANY, True), key=lambda link: rank(link.key))]
