@@ -5,6 +5,7 @@ import random
 import re
 import shutil
 import subprocess
+import tempfile
 import xml.etree.ElementTree as xml
 
 from checks import TOP
@@ -109,12 +110,22 @@ def crowded(checks):
 def examples(program, checks):
     """The pictures of the examples' page are those that its commands draw."""
     page, found = open(os.path.join(TOP, "examples/README.md")).read(), {}
-    commands = re.findall(r"^    (.*tools/routed-tools draw(?:-failures)? .*) > (examples/\S+\.svg)$", page, re.M)
+    commands = list(re.finditer(r"^    (.*tools/routed-tools draw(?:-\w+)? .*) > (examples/\S+\.svg)$", page, re.M))
     checks.true("the page draws pictures", len(commands) > 2, f"{len(commands)} commands")
-    for command, path in commands:
+    for command, path in ((after_others(page[:it.start()], it[1]), it[2]) for it in commands):
         command = command.replace("crates/routed/out/routed",
                                   f'"{program.path}"').replace("routed-tools sweep ", f'routed-tools sweep --program "{program.path}" ')
-        drawn = subprocess.run(command, shell=True, cwd=TOP, capture_output=True, text=True).stdout
+        with tempfile.TemporaryDirectory() as room:
+            drawn = subprocess.run(["timeout", "120", "sh", "-c", command], cwd=TOP, capture_output=True, text=True,
+                                   env={**os.environ, "TMPDIR": room}).stdout
         checks.same(path, drawn, open(os.path.join(TOP, path)).read())
         found[path] = drawn
     return found
+
+
+def after_others(page, command):
+    """A command. Where it reads files of a folder, the last commands of the page that make one are run before it."""
+    if "$dir/" not in command:
+        return command
+    blocks = [block for block in re.findall(r"(?:^    .*\n)+", page, re.M) if block.startswith("    dir=")]
+    return f"{{\n{re.sub('(?m)^    ', '', blocks[-1])}}} > /dev/null\n{command}"

@@ -1,4 +1,4 @@
-"""Tests of routed-tools draw and routed-tools draw-failures: what a picture shows, and where routers are."""
+"""Tests of routed-tools draw, draw-failures and draw-circuit: what a picture shows, and where routers are."""
 import itertools
 import math
 import os
@@ -10,6 +10,7 @@ import xml.etree.ElementTree as xml
 from checks import TOP
 from tools.drawing import SVG, begin_of, big_network, classes, draw, draw_failures, hovers, least_distance, link, names, notes, places_in
 from tools.drawing import shapes
+from tools.drawn_circuits import circuit_replies, circuit_steps, not_drawn
 from tools.labels import apart, placer
 from tools.ring import BEFORE, OF_CIRCUITS
 
@@ -376,4 +377,5 @@ def sizes(_, checks):
 
 
 def pictures(program, checks):
-    checks.parts((sizes, circuits, routes, pairs, overbooked, marks, places, failures, layouts, placer, apart), program, checks)
+    checks.parts((sizes, circuits, routes, pairs, overbooked, marks, places, failures, circuit_steps, circuit_replies, not_drawn,
+                  layouts, placer, apart), program, checks)
