@@ -87,6 +87,7 @@ class Chart:
 
     def __init__(self, columns: list[Column], most: int) -> None:
         self.columns, self.step = columns, step_of(max(most, 1), MOST_TICKS)
+        self.count = columns[0].last + 1 - columns[0].first  # versions of a column
         self.top = self.step * max(1, -(-most // self.step))
         labels = [*(f"{it:,}" for it in range(0, self.top + 1, self.step)), *LANES]
         self.left = MARGIN / 2 + max(width(label, SMALL) for label in labels) + GAP
@@ -150,19 +151,19 @@ class Chart:
             yield (f'<rect class="run" x="{self.x(begin):.1f}" y="{MARGIN}" width="{(end - begin) * self.wide:.1f}" height="{HIGH}" '
                    f'style="fill-opacity:0">{hover(says)}</rect>')
 
-    def marks(self, told: list[Told]) -> Iterator[str]:
-        """The marks of replies, each in the column of its version. Where they have no room side by side, those of one use are one."""
-        count = self.columns[0].last + 1 - self.columns[0].first
+    def marks(self, told: list[Told]) -> Iterator[tuple[list[Told], float, float]]:
+        """The replies of each mark and its place, in the column of their version. Where marks have no room side by side, the replies of
+        one use have one."""
         there: dict[tuple[int, int], list[Told]] = {}
         for it in told:
-            there.setdefault(((it.version - self.columns[0].first) // count, LANE_OF.get(it.use, -1)), []).append(it)
+            there.setdefault(((it.version - self.columns[0].first) // self.count, LANE_OF.get(it.use, -1)), []).append(it)
         for (index, lane), some in sorted(there.items()):
             groups = [[it] for it in some]
             if len(groups) > max(1, self.wide // APART):
                 groups = [[it for it in some if it.use == use] for use in dict.fromkeys(it.use for it in some)]
             y = self.lane(lane) if lane >= 0 else self.y(self.columns[index].left or 0)
             for at, group in enumerate(groups):
-                yield shape(group[0].use, self.x(index + (at + 0.5) / len(groups)), y, SIZE if len(group) == 1 else LARGER, said_of(group))
+                yield group, self.x(index + (at + 0.5) / len(groups)), y
 
 
 def said_of(group: list[Told]) -> str:
@@ -181,16 +182,17 @@ def circuit_picture(title: str, followed: Followed, priority: int, names: Names)
     chart = Chart(columns_of(lefts, 0 if any(not it.version for it in told) else 1), max(it or 0 for it in lefts))
     name = f"{names.name_of(link.router)} to {names.name_of(link.neighbor)} ({','.join(link.key)})"
     counts = {use: sum(it.use == use for it in told) for use in USES}
-    several = chart.columns[0].last > chart.columns[0].first
+    marks = list(chart.marks(told))
     notes: list[Note] = [(sample(f"stroke:{BLUE};stroke-width:2.5"), f"what the link {name} has left at priority {priority}")]
     notes += [(shape_sample(use), replies_text(count, use)) for use, count in counts.items() if count]
-    drawn = [*chart.scales(priority), *chart.line(), *chart.marks(told)]
-    if any(f'r="{LARGER}"' in it or f"l{LARGER} {LARGER}" in it or f"l{2 * LARGER} {2 * LARGER}" in it for it in drawn):
+    drawn = [*chart.scales(priority), *chart.line(),
+             *(shape(group[0].use, x, y, SIZE if len(group) == 1 else LARGER, said_of(group)) for group, x, y in marks)]
+    if any(len(group) > 1 for group, _, _ in marks):
         notes.append((None, "a larger mark: several replies"))
     if any(column.left is None for column in chart.columns):
         notes.append((None, "no line: the link isn't in the network"))
-    if several:
-        notes.append((None, f"a step is {chart.columns[0].last + 1 - chart.columns[0].first:,} versions: the least that is left in them"))
+    if chart.count > 1:
+        notes.append((None, f"a step is {chart.count:,} versions: the least that is left in them"))
     runs = [(chart.columns[begin].first, chart.columns[end - 1].last, left) for begin, end, left in chart.runs()]
     says = [f"{versions_text(first, last)}: {left_text(left)}" for first, last, left in runs[:SAID]] + [".."] * (len(runs) > SAID)
     told_of = [replies_text(count, use) for use, count in counts.items() if count]
