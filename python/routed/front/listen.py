@@ -152,7 +152,7 @@ class Front:
         ours = f"/proc/{os.getpid()}/fd"  # inherited, an end of a pipe would stay open in the server whatever it closes: it opens its own
         clients = pipe_of("".join(f"{ours}/{rows}={ours}/{lines}\n" for rows, lines in (seat.place for seat in self.seats.all)))
         words = [self.options.program, "serve", "--explain", "--journal", self.options.journal, "--clients-from", f"{ours}/{clients}",
-                 "--reopen", *self.options.questions, *(self.book.words() if self.book else ["--figures", self.account.tallies.path])]
+                 "--reopen", "--figures", self.account.tallies.path, *self.options.questions, *(self.book.words() if self.book else [])]
         with tried(self.options.program, program.hint(self.options.program)):
             self.server = subprocess.Popen(words, stdin=self.theirs[0], stdout=self.theirs[1], preexec_fn=outlive_limits)
         for file in self.theirs:
