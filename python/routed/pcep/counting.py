@@ -250,9 +250,10 @@ class Counting:
         return request if request.ends[0] != request.ends[1] else None
 
     def route_of(self, lsp: Lsp, asked: rows.Request) -> tuple[str, bool]:
-        """The route that its PCC has reported, as a `held` row has it, and whether it may be used; empty if it can't be read."""
+        """The route that its PCC has reported, as a `held` row has it, and whether it may be used; empty if it can't be read. The
+        journal has to be the server's."""
         network = self.front.network
-        if not lsp.ero or not network.is_proved:
+        if not lsp.ero:
             return "", False
         sent = lsp.last
         if sent and sent.ero == lsp.ero:

@@ -126,8 +126,8 @@ class Displaced:
             self.front.loop.after(AGAIN, self.again, self.book)
 
     def place(self, number: int, why: str, then: Callable[[], object]) -> None:
-        """Places again. An LSP that is the front's to move is moved there. Of others that have lost their routes the bandwidth is kept where
-        they may go; others that carry traffic stay counted where they are."""
+        """Places again. An LSP that is the front's to move is moved there. Of others that have lost their routes the bandwidth is kept
+        where they may go; others that carry traffic stay counted where they are."""
         counting, lsp = self.lsp_of(number) or (None, None)
         if counting and lsp and counting.is_ours(lsp):
             if not counting.placing.has_rows(lsp):
