@@ -37,6 +37,8 @@ RISES = [  # an alarm, and the figure that rises from 0 to 1, or falls to 0, aft
     ("RoutedClientRowRefused", "routed_client_refused_rows_total", "0x20 1x100"),
     ("RoutedPcepSessionEnded", "routed_pcep_sessions_ended_total", "0x20 1x100"),
     ("RoutedPcepNoServer", "routed_pcep_connected", "1x20 0x100"),
+    ("RoutedPcepNoPlacements", "routed_pcep_placements_connected", "1x20 0x100"),
+    ("RoutedPcepUncounted", "routed_pcep_lsps_uncounted", "0x20 1x100"),
     ("RoutedPcepJournal", "routed_pcep_journal_followed", "1x20 0x100"),
     ("RoutedPcepRepliesLost", "routed_pcep_replies_lost", "0x20 1x100")]
 VERSIONS = 2000  # more lines than a socket keeps for a connection that doesn't read
