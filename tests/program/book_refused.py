@@ -89,7 +89,7 @@ class Calls:
         is_stopped, is_mute = ran.status == 3, flags == ("write", "on") and not ran.err
         if not self.told(ran, flags) and not is_mute:
             return "what is said of it isn't right"
-        if not is_stopped and not is_answered and b"client 1" not in ran.err:
+        if not is_stopped and not is_answered and not is_mute and b"client 1" not in ran.err:
             return "a client isn't answered"
         if is_whole:
             return None

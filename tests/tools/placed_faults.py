@@ -51,6 +51,8 @@ def full_keep(program, checks, room):
         found = figures_of(room)
         checks.same("figures", [found.get(("routed_refused_placings_total", word)) for word in ("keep", "stopped")], [1, 2])
         said = front.errors.next()
+        if said.startswith("routed: figures "):  # that file is larger
+            said = front.errors.next()
         checks.same("the log", said, f"listen: placements 1: held {count} refused: keep {size}\n")
 
 
