@@ -207,7 +207,8 @@ def kills(program, checks, room):
             timer.join()
             child.wait(PATIENCE)
             subprocess.run(["flock", os.path.join(runs.folder, "lock"), "true"], timeout=PATIENCE)  # commands of a killed script end
-            child.stdin.close() if is_served else None
+            with contextlib.suppress(BrokenPipeError):  # rows that it hasn't read
+                child.stdin.close()
         phases["serving" if is_served else "starting"] += 1
     checks.same("what was told is in each beginning", wrong_ones, [])
     checks.true("the number of each run is above that of the run before", names == sorted(set(names)), names)
