@@ -81,7 +81,7 @@ from ..net.notify import Supervised
 from ..net.signals import take_signals
 from ..net.stream import Stream
 from . import processes
-from .accounts import PLACES, Account
+from .accounts import Account
 from .booked import BookAccount
 from .channels import Channel
 from .direct import Directs
@@ -96,6 +96,7 @@ from .snapshots import Snapshots
 from .updates import Updates
 from .watch import Watch
 
+BOUND = "updates", "ask", "watch", "metrics", "direct", "show", "placements"  # places, in the order in which they are taken and told
 SOON = 0.005  # seconds from one look at the seats to the next
 
 
@@ -268,7 +269,7 @@ def main(given: list[str] | None = None) -> int:
     options = read(__doc__, given)
     front = Front(options)
     try:
-        for kind in (*PLACES, "placements"):
+        for kind in BOUND:
             if place := getattr(options, kind):
                 front.listeners[kind] = place.bind(mode_of(options, kind))
         return front.run()
