@@ -41,7 +41,7 @@ def reported(checks, room):
     """What is reported is counted where it is: without a readable route it is placed, and what is delegated is told so."""
     front, pcc = with_lsps(room, ("a", "124", 1e6))
     (number, route), = front.server.routes().items()
-    checks.same("the id is of the PCC's address and its name", (number >> 32, kinds(front)), (0x0a000001, ["book", "held", "offer"]))
+    checks.same("the id is of the PCC's address and its name", (number, kinds(front)), (0x0a000001ca978112, ["book", "held", "offer"]))
     checks.same("its route", route, NORTH)
     since = len(front.server.rows)
     pcc.tell(1)
