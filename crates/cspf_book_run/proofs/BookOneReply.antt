@@ -122,8 +122,10 @@ module _ (best : OneBestAnswer) (s : BookRunState) (q : Request) (hold : ℕ) wh
 
   place_refusal_once : (why other : PlaceRefusal) → IsPlaceRefusal s q why → IsPlaceRefusal s q other → why ≡ other
   place_refusal_once unplaced.Stopped other a b = absurd a
+  place_refusal_once unplaced.Memory other a b = absurd a
   place_refusal_once (unplaced.Failed fault) other a b = absurd a
   place_refusal_once why unplaced.Stopped a b = absurd b
+  place_refusal_once why unplaced.Memory a b = absurd b
   place_refusal_once why (unplaced.Failed fault) a b = absurd b
   place_refusal_once unplaced.Exhausted unplaced.Exhausted a b = refl
   place_refusal_once unplaced.Exhausted other a b = absurd (omega (arith, a, b.0))
@@ -171,8 +173,10 @@ module _ (best : OneBestAnswer) (s : BookRunState) (q : Request) (hold : ℕ) wh
 
 held_refusal_once : (s : BookRunState) (p : Placement) (why other : HeldRefusal) → IsHeldRefusal s p why → IsHeldRefusal s p other → why ≡ other
 held_refusal_once s p unheld.Stopped other a b = absurd a
+held_refusal_once s p unheld.Memory other a b = absurd a
 held_refusal_once s p (unheld.Failed fault) other a b = absurd a
 held_refusal_once s p why unheld.Stopped a b = absurd b
+held_refusal_once s p why unheld.Memory a b = absurd b
 held_refusal_once s p why (unheld.Failed fault) a b = absurd b
 held_refusal_once s p unheld.Exhausted unheld.Exhausted a b = refl
 held_refusal_once s p unheld.Exhausted other a (room, b) = absurd (omega (arith, a, room))
@@ -213,8 +217,10 @@ held_once s p l m t u (inr (why, r, line, after)) (inr (why2, r2, line2, after2)
 
 release_refusal_once : (s : BookRunState) (id : ℕ) (why other : ReleaseRefusal) → IsReleaseRefusal s id why → IsReleaseRefusal s id other → why ≡ other
 release_refusal_once s id unreleased.Stopped other a b = absurd a
+release_refusal_once s id unreleased.Memory other a b = absurd a
 release_refusal_once s id (unreleased.Failed fault) other a b = absurd a
 release_refusal_once s id why unreleased.Stopped a b = absurd b
+release_refusal_once s id why unreleased.Memory a b = absurd b
 release_refusal_once s id why (unreleased.Failed fault) a b = absurd b
 release_refusal_once s id unreleased.Exhausted unreleased.Exhausted a b = refl
 release_refusal_once s id unreleased.Exhausted unreleased.Absent a b = absurd (omega (arith, a, b.0))

@@ -292,8 +292,8 @@ module _ {K : Type 0} (contents : K → Option (List ℕ)) (k : BookRows (Keepin
 
     lost_at_row : (s : KeptRunState) → IsBookAt (1 + length a.done) b s → AreFirstBookRows rows a.done a.rest a.lines s → (row : Result BookRow BookRowError) → book_row_of fields ≡ row
         → IsAnsweredLost (writer_spec contents) fields row b.rows b'.rows → IsHalted error.Memory (Some rows) old new (keep_of b')
-    lost_at_row s at begins (Err e) read lost = same_keep lost
-    lost_at_row s at begins (Ok row) read lost = elim (lost s.run at.keeps) [
+    lost_at_row s at begins (Err e) read lost = same_keep (lost s.run at.keeps).1
+    lost_at_row s at begins (Ok row) read lost = elim (lost s.run at.keeps).1 [
       | inl same ↦ same_keep same
       | inr (line, t, f) ↦ unsaid s at begins line t row read f
     ]

@@ -1,5 +1,5 @@
 -- The state of a run after a row of the base: a change, an end row or a request.
-use Rattle.std.proofs.Common.{◌≡◌, ◌==◌, ◌⊎◌, ℕ, ◌+◌, ◌-◌, true, false, List, [], ◌∷◌, ◌++◌, length, inl, inr, refl, sym, ap, subst, ◌∙◌, arith}
+use Rattle.std.proofs.Common.{◌≡◌, ◌==◌, ◌⊎◌, ℕ, ◌+◌, ◌-◌, true, false, List, [], ◌∷◌, ◌++◌, length, Ok, inl, inr, refl, sym, ap, subst, ◌∙◌, arith}
 use Rattle.std.proofs.lemmas.Bool.{cases_Bool, eqb-true}
 use Rattle.std.specs.List.{flat_map}
 use Rattle.cspf_model.specs.Changes.{Fits, after_changes}
@@ -9,12 +9,13 @@ use Rattle.cspf_model.specs.declared.batch.Change.{Change}
 use Rattle.cspf_rows.specs.BatchText.{batch_text}
 use Rattle.cspf_rows.specs.Steps.{step_of}
 use Rattle.cspf_rows.specs.declared.row.Row.{Row}
+use Rattle.cspf_rows.specs.declared.row.Row.TheVariants as row_kind
 use Rattle.cspf_rows.specs.declared.step.Step.{Step}
 use Rattle.cspf_rows.specs.declared.step.Step.TheVariants as step
 use Rattle.cspf_stream.specs.EndRows.{IsRightEnd, IsStoppedOrWrong}
 use Rattle.cspf_stream.specs.Lines.{refused_batch_line}
 use Rattle.cspf_stream.specs.OpenChanges.{AreOpen}
-use Rattle.cspf_stream.specs.RowsTaken.{RowsState, RowsLead, IsEndAccepted, IsEndRefused, IsBatchDropped, IsStepTaken, IsStepLost}
+use Rattle.cspf_stream.specs.RowsTaken.{RowsState, KeepsRows, RowsLead, IsEndAccepted, IsEndRefused, IsBatchDropped, IsStepTaken, IsStepLost}
 use Rattle.cspf_stream.specs.declared.batch_refusal.BatchRefusal.{BatchRefusal}
 use Rattle.cspf_stream.specs.declared.batch_refusal.BatchRefusal.TheVariants as refusal
 use Rattle.cspf_stream.specs.declared.rows.Rows.{Rows}
@@ -30,7 +31,7 @@ use Rattle.cspf_book_run.specs.BookSinks.{IsBatchCut, BookSinkState, book_spec, 
 use Rattle.cspf_book_run.specs.BookStates.{KeepsBook, BookLeads}
 use Rattle.cspf_book_run.specs.Kept.{text_of_step}
 use Rattle.cspf_book_run.specs.KeptRuns.{IsEndUnkept, IsStepStopped}
-use Rattle.cspf_book_run.specs.KeptStates.{IsRowDone, IsRowFailed, IsRowLost}
+use Rattle.cspf_book_run.specs.KeptStates.{IsRowDone, IsRowFailed, IsStateLost, IsAnsweredLost}
 use Rattle.cspf_book_run.specs.Keeping.{KeepSpec, IsCutWith, IsKeptIfNew}
 use Rattle.cspf_book_run.specs.WriteFaultWords.{batch_refusal_of}
 use Rattle.cspf_book_run.specs.declared.write_fault.WriteFault.{WriteFault}
@@ -246,6 +247,17 @@ module _ {S : Type 0} (spec : KeepSpec S) where
   stored_is : (k : Rows (BookSinkState S)) (s : BookRunState) → KeepsBook k s → IsOfRun (stored k s) s
   stored_is k s kept = record { book = kept.book; batches = kept.batches; skipped = kept.skipped; changes = refl; answers = kept.answers; refused = kept.refused }
 
+  -- The code's rows store what the rows of the base lead to.
+  as_kept : (k : Rows (BookSinkState S)) (t : RowsState (BookSinkState S)) (s : BookRunState) → KeepsRows k t → IsOfRun t s → KeepsBook k s
+  as_kept k t s rows of = record {
+    book = ap (λ (x : BookSinkState S). x.book) rows.sink ∙ of.book;
+    batches = ap (λ (x : BookSinkState S). x.batches) rows.sink ∙ of.batches;
+    skipped = ap (λ (x : BookSinkState S). x.skipped) rows.sink ∙ of.skipped;
+    changes = subst (λ cs. AreOpen k.changes cs) of.changes rows.changes;
+    answers = rows.answers ∙ of.answers;
+    refused = rows.refused ∙ of.refused;
+  }
+
   -- If the code's rows do what a row of the base asks for, as `IsStepTaken` of `cspf_stream` states,
   -- the row is answered as `IsRowDone` states for a run.
   pub base_row : RefusedIsUnfit → (k k' : Rows (BookSinkState S)) (fields : List (List ℕ)) (row : Row) (line : List ℕ) → RowsLead k k' (λ r t. IsStepTaken (book_spec spec) r (step_of row) line t)
@@ -255,31 +267,39 @@ module _ {S : Type 0} (spec : KeepSpec S) where
       let a = step_taken unfit (stored k s) led.0 s (step_of row) line (stored_is k s kept) led.2 in
       let same = ap (λ (x : BookSinkState S). x.keeping) led.1.sink in (
         a.0,
-        record {
-          book = ap (λ (x : BookSinkState S). x.book) led.1.sink ∙ a.1.book;
-          batches = ap (λ (x : BookSinkState S). x.batches) led.1.sink ∙ a.1.batches;
-          skipped = ap (λ (x : BookSinkState S). x.skipped) led.1.sink ∙ a.1.skipped;
-          changes = subst (λ cs. AreOpen k'.changes cs) a.1.changes led.1.changes;
-          answers = led.1.answers ∙ a.1.answers;
-          refused = led.1.refused ∙ a.1.refused;
-        },
+        as_kept k' led.0 a.0 led.1 a.1,
         subst (λ (x : S). IsRowDone spec s fields (book_row.Base row) line a.0 k.sink.keeping x) (sym same)
             (as_row s a.0 fields row line k.sink.keeping led.0.sink.keeping a.2),
       )
 
+  same_kept : (k : Rows (BookSinkState S)) (r t : RowsState (BookSinkState S)) (s : BookRunState) → KeepsRows k t → IsOfRun r s → t ≡ r → KeepsBook k s
+  same_kept k r t s rows of same = as_kept k t s rows (subst (λ (x : RowsState (BookSinkState S)). IsOfRun x s) (sym same) of)
+
+  state_lost : RefusedIsUnfit → (k : Rows (BookSinkState S)) (r t : RowsState (BookSinkState S)) (s : BookRunState) (row : Row) → KeepsRows k t → IsOfRun r s → IsStepLost (book_spec spec) r (step_of row) t
+      → IsStateLost spec s (Ok (book_row.Base row)) k
+  unfolding refused
+  state_lost unfit k r t s (row_kind.End number count) rows of (inl same) = inl (same_kept k r t s rows of same)
+  state_lost unfit k r t s (row_kind.End number count) rows of (inr (line, a)) = inr (number, refl, as_kept k t (after_refused_base_batch s) rows (refused unfit r t s of number count line a).1)
+  state_lost unfit k r t s (row_kind.Put link) rows of same = inl (same_kept k r t s rows of same)
+  state_lost unfit k r t s (row_kind.Remove from local) rows of same = inl (same_kept k r t s rows of same)
+  state_lost unfit k r t s (row_kind.Node router transit) rows of same = inl (same_kept k r t s rows of same)
+  state_lost unfit k r t s (row_kind.Ask q) rows of same = inl (same_kept k r t s rows of same)
+
   pub base_lost : RefusedIsUnfit → (k k' : Rows (BookSinkState S)) (fields : List (List ℕ)) (row : Row) → RowsLead k k' (λ r t. IsStepLost (book_spec spec) r (step_of row) t)
-      → IsRowLost spec fields (book_row.Base row) k k'
+      → IsAnsweredLost spec fields (Ok (book_row.Base row)) k k'
   base_lost unfit k k' fields row lead s kept =
       let led = lead (stored k s) (record { sink = refl; changes = kept.changes; answers = refl; refused = refl }) in
-      let same = ap (λ (x : BookSinkState S). x.keeping) led.1.sink in
-      elim (step_lost unfit (stored k s) led.0 s (step_of row) (stored_is k s kept) led.2) [
-        | inl none ↦ inl (same ∙ none)
-        | inr fails ↦
-            let f = fails.2 in
-            inr (
-              fails.0,
-              fails.1,
-              subst (λ (x : S). IsRowFailed spec s fields (book_row.Base row) fails.0 fails.1 k.sink.keeping x) (sym same)
-                  (record { why = f.why; lines = f.lines; next = f.next; going = f.going; accepted = f.accepted; cut_off = f.cut_off; refused = f.refused }),
-            )
-      ]
+      let same = ap (λ (x : BookSinkState S). x.keeping) led.1.sink in (
+        state_lost unfit k' (stored k s) led.0 s row led.1 (stored_is k s kept) led.2,
+        elim (step_lost unfit (stored k s) led.0 s (step_of row) (stored_is k s kept) led.2) [
+          | inl none ↦ inl (same ∙ none)
+          | inr fails ↦
+              let f = fails.2 in
+              inr (
+                fails.0,
+                fails.1,
+                subst (λ (x : S). IsRowFailed spec s fields (book_row.Base row) fails.0 fails.1 k.sink.keeping x) (sym same)
+                    (record { why = f.why; lines = f.lines; next = f.next; going = f.going; accepted = f.accepted; cut_off = f.cut_off; refused = f.refused }),
+              )
+        ],
+      )

@@ -26,7 +26,7 @@ use Rattle.cspf_book_run.specs.PlacementLines.{show_line, left_line}
 use Rattle.cspf_book_run.specs.declared.book_row.BookRow.{BookRow}
 use Rattle.cspf_book_run.specs.declared.book_row.BookRow.TheVariants as book_row
 use Rattle.cspf_book_run.specs.declared.book_row_error.BookRowError.{BookRowError}
-use Rattle.cspf_book_run.proofs.KeptBook.{bare, rows_remake}
+use Rattle.cspf_book_run.proofs.KeptBook.{bare, kept_rows, rows_remake}
 use Rattle.cspf_book_run.proofs.KeptTexts.{kept_cut}
 
 abbrev Rows : Type 0
@@ -167,4 +167,4 @@ kept_behind read laws earlier rows begun skipped text t (said, answered, taken) 
 
 pub kept_is_book : KeptBehindIsTheBook → KeptIsTheBook
 unfolding AreAnswered
-kept_is_book behind rows text t a = behind [] rows book_start 0 text t ([], (refl, refl), refl) refl a
+kept_is_book behind rows text t a = behind [] rows book_start 0 text t ([], (refl, refl), refl) refl (kept_rows rows 1 book_start t text a)

@@ -42,6 +42,10 @@ use Rattle.cspf_book_run.specs.declared.book_row_error.BookRowError.TheVariants 
 use Rattle.cspf_book_run.specs.BookRows.{held_as_asked, held_request_of, held_placement, held_route_of, held_as_read, id_row_of, left_key_of, place_row_of, release_row_of, held_row_of, offer_row_of, show_row_of, left_row_of, other_row_of, book_row_of}
 use Rattle.cspf_book_run.specs.BookScript.{BookRunState, book_answers, open_base_batch, after_refusal, after_open_change, after_answer, after_base_batch, IsBaseAccepted, AreBaseLines, IsPlaceAnswered, IsBookStepAnswered, IsBookRowAnswered}
 use Rattle.cspf_book_run.specs.Kept.{kept_answers, kept_of, text_of_row, text_of_step}
+use Rattle.cspf_book_run.specs.KeptLaws.{kept_or_out_answers}
+use Rattle.cspf_book_run.specs.OutOfMemory.{after_memory}
+use Rattle.cspf_book_run.specs.declared.row_name.RowName.{RowName}
+use Rattle.cspf_book_run.specs.declared.row_name.RowName.TheVariants as name
 use Rattle.cspf_book_run.proofs.BookSteps.{another_version}
 use Rattle.cspf_book_run.proofs.Looks.{Looks, shown_looks, left_looks, look_same}
 use Rattle.cspf_book_run.proofs.KeptTexts.{StartsPlain, IsPlainRecord, change_plain, end_plain, lines_rows, rows_start}
@@ -322,15 +326,19 @@ bare_same s t a (book, batches, restored, skipped) =
     ap (λ (b : BookState). bare_of b t.batches t.restored t.skipped a) book ∙ ap (λ (n : ℕ). bare_of s.book n t.restored t.skipped a) batches
     ∙ ap (λ (n : ℕ). bare_of s.book s.batches n t.skipped a) restored ∙ ap (λ (n : ℕ). bare_of s.book s.batches s.restored n a) skipped
 
-nothing_kept : (s t : BookRunState) (text : List ℕ) → SameBook s t → length t.changes ≤ length s.changes + 1
-    → Remakes 1 s t (cond (t.book.version == s.book.version) [] text)
-nothing_kept s t text same few = record {
+no_text : (s t : BookRunState) (text : List ℕ) → text ≡ [] → SameBook s t → length t.changes ≤ length s.changes + 1 → Remakes 1 s t text
+no_text s t text none same few = record {
   records = [];
-  is = rw (eq-eqb t.book.version s.book.version (ap (λ (b : BookState). b.version) same.0)) refl;
+  is = none;
   plain = tt;
   few = omega (arith, few);
   runs = λ a. (a, [], λ p. none_answered p (bare s a) (bare t a) (bare_same s t a same));
 }
+
+nothing_kept : (s t : BookRunState) (text : List ℕ) → SameBook s t → length t.changes ≤ length s.changes + 1
+    → Remakes 1 s t (cond (t.book.version == s.book.version) [] text)
+nothing_kept s t text same few =
+    no_text s t (cond (t.book.version == s.book.version) [] text) (rw (eq-eqb t.book.version s.book.version (ap (λ (b : BookState). b.version) same.0)) refl) same few
 
 -- Let a row make a new version of the book, and let its text for the writer `keep` be the text of
 -- the row itself. If a run over just this row leads to the same book, `Remakes` holds for this row.
@@ -361,6 +369,19 @@ refused_remakes : (s t : BookRunState) (text : List ℕ) → AreOpenInRange s �
 refused_remakes s t text range after =
     let opens = ap (λ (x : BookRunState). x.changes) after in (
       nothing_kept s t text (ap (λ (x : BookRunState). x.book) after, ap (λ (x : BookRunState). x.batches) after, ap (λ (x : BookRunState). x.restored) after, ap (λ (x : BookRunState). x.skipped) after) (rw opens (omega arith)),
+      same_changes s t opens range,
+    )
+
+-- A row that is refused by `memory` has no text for the writer `keep`, and leaves the book unchanged.
+memory_remakes : (s t : BookRunState) (text : List ℕ) (called : RowName) → AreOpenInRange s → text ≡ [] → t ≡ after_memory s called → Remakes 1 s t text × AreOpenInRange t
+memory_remakes s t text (name.Batch number) range none after =
+    let opens = ap (λ (x : BookRunState). x.changes) after in (
+      no_text s t text none (ap (λ (x : BookRunState). x.book) after, ap (λ (x : BookRunState). x.batches) after, ap (λ (x : BookRunState). x.restored) after, ap (λ (x : BookRunState). x.skipped) after) (rw opens (omega arith)),
+      subst (AllByRecursion IsChangeInRange) (sym opens) tt,
+    )
+memory_remakes s t text other range none after =
+    let opens = ap (λ (x : BookRunState). x.changes) after in (
+      no_text s t text none (ap (λ (x : BookRunState). x.book) after, ap (λ (x : BookRunState). x.batches) after, ap (λ (x : BookRunState). x.restored) after, ap (λ (x : BookRunState). x.skipped) after) (rw opens (omega arith)),
       same_changes s t opens range,
     )
 
@@ -502,12 +523,24 @@ no_rows s t text none same = record {
   runs = λ a. (a, [], λ p. none_answered p (bare s a) (bare t a) (ap (λ (x : BookRunState). bare x a) same));
 }
 
-pub rows_remake : AreRowsRead → AreRowsReadBack → (rows : List (List (List ℕ))) (p : ℕ) (s t : BookRunState) (text : List ℕ) → AreOpenInRange s → AreAnswered kept_answers p s rows text t → Remakes (length rows) s t text
+one_remakes : AreRowsRead → AreRowsReadBack → (p : ℕ) (s t : BookRunState) (fields : List (List ℕ)) (text : List ℕ) → AreOpenInRange s → kept_or_out_answers p s fields text t → Remakes 1 s t text × AreOpenInRange t
+one_remakes read laws p s t fields text range (inl (line, answer, kept_is)) =
+    let row = row_remakes read laws p s t fields (book_row_of fields) line range refl answer in
+    (subst (Remakes 1 s t) (sym kept_is) row.0, row.1)
+one_remakes read laws p s t fields text range (inr (none, line, out)) = memory_remakes s t text out.called range none out.after
+
+pub rows_remake : AreRowsRead → AreRowsReadBack → (rows : List (List (List ℕ))) (p : ℕ) (s t : BookRunState) (text : List ℕ) → AreOpenInRange s → AreAnswered kept_or_out_answers p s rows text t → Remakes (length rows) s t text
 unfolding AreAnswered
 rows_remake read laws [] p s t text range a = no_rows s t text a.0 a.1
-rows_remake read laws (fields ∷ rows) p s t text range (kept, next, more, (line, answer, kept_is), whole, rest) =
-    let first = row_remakes read laws p s next fields (book_row_of fields) line range refl answer in
+rows_remake read laws (fields ∷ rows) p s t text range (kept, next, more, a, whole, rest) =
+    let first = one_remakes read laws p s next fields kept range a in
     let others = rows_remake read laws rows (suc p) next t more first.1 rest in
-    let both = both_remake 1 (length rows) s next t (kept_of s fields next) more first.0 others in
+    let both = both_remake 1 (length rows) s next t kept more first.0 others in
     let count : 1 + length rows ≡ suc (length rows) = omega arith in
-    rw (whole, kept_is) (subst (λ (n : ℕ). Remakes n s t (kept_of s fields next ++ more)) count both)
+    rw whole (subst (λ (n : ℕ). Remakes n s t (kept ++ more)) count both)
+
+-- Rows that are answered are answered or refused by `memory`.
+pub kept_rows : (rows : List (List (List ℕ))) (p : ℕ) (s t : BookRunState) (text : List ℕ) → AreAnswered kept_answers p s rows text t → AreAnswered kept_or_out_answers p s rows text t
+unfolding AreAnswered
+kept_rows [] p s t text a = a
+kept_rows (fields ∷ rows) p s t text (kept, next, more, a, whole, rest) = (kept, next, more, inl a, whole, kept_rows rows (suc p) next t more rest)

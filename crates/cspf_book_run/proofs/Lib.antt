@@ -4,6 +4,7 @@ pub mod RowRequests
 pub mod BookRowLemmas
 pub mod BookSteps
 pub mod ReplyLines
+pub mod OutOfMemory
 pub mod PlaceSteps
 pub mod HeldSteps
 pub mod BookRun

@@ -93,6 +93,7 @@ skips_row other = skips_plain (row_words other) refl
 skips_book_row : (e : BookRowError) → Skips (book_row_words e)
 skips_book_row (refused.Row e) = skips_row e
 skips_book_row refused.Route = skips_plain (codes "route") refl
+skips_book_row refused.Memory = skips_plain (codes "memory") refl
 
 skips_unfit : (why : Refusal) → Skips (unfit_words why)
 skips_unfit (unfit.Duplicate at) = named (codes "duplicate ") at refl

@@ -56,6 +56,16 @@ abbrev KeeperPlaces : {S : Type 0} → KeepSpec S → Keeper S → NumberedChang
 KeeperPlaces spec before b answer after =
     spec.keeps before.keeping before.text.items b after.keeping × IsPlaceReply before.id before.named answer after.line.items
 
+-- If the answer isn't a route, the book is unchanged.
+pub same_book : (old new : BookState) (q : Request) (hold : ℕ) (answer : Answer) → IsUnrouted answer → IsAnswerPlaced old q hold answer new → new ≡ old
+same_book old new q hold (route walk) none placed = absurd none
+same_book old new q hold other none placed = placed
+
+-- The sink is unchanged if its book and what keeps the texts are.
+pub same_sink : {S : Type 0} (old new : BookState) (batches skipped : ℕ) (keeping kept : S) (was : BookSinkState S) → record { book = old; batches = batches; skipped = skipped; keeping = keeping } ≡ was → new ≡ old
+    → kept ≡ keeping → record { book = new; batches = batches; skipped = skipped; keeping = kept } ≡ was
+same_sink old new batches skipped keeping kept was is book same = (λ i. record { book = book i; batches = batches; skipped = skipped; keeping = same i }) ∙ is
+
 module _ {S : Type 0} (spec : KeepSpec S) (old new : BookState) (q : Request) (hold : ℕ) (before after : Keeper S) where
   -- If the answer isn't a route, nothing is kept.
   pub same_keeping : (answer : Answer) → IsUnrouted answer → IsPlacingTaken (KeeperPlaces spec) old q.id before answer new after → after.keeping ≡ before.keeping

@@ -41,6 +41,7 @@ place_words place.Full = codes "full"
 place_words place.Links = codes "links"
 place_words place.Twice = codes "twice"
 place_words place.Long = codes "long"
+place_words place.Memory = codes "memory"
 place_words (place.Failed fault) = write_fault_words fault
 
 -- the line that says why the request with this id isn't placed
@@ -52,6 +53,7 @@ abbrev pub release_words : ReleaseRefusal → List ℕ
 release_words release.Stopped = codes "stopped"
 release_words release.Exhausted = codes "exhausted"
 release_words release.Absent = codes "absent"
+release_words release.Memory = codes "memory"
 release_words (release.Failed fault) = write_fault_words fault
 
 -- the line that says why no placement with this id is released

@@ -9,6 +9,7 @@ use Rattle.cspf_book_run.specs.declared.book_row_error.BookRowError.TheVariants 
 abbrev pub book_row_words : BookRowError → List ℕ
 book_row_words (error.Row why) = words why
 book_row_words error.Route = codes "route"
+book_row_words error.Memory = codes "memory"
 
 -- the line of a refused row; `place` is the number of the row, counted from 1
 abbrev pub refused_book_row_line : ℕ → BookRowError → List ℕ

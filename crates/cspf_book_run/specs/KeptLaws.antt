@@ -4,7 +4,9 @@
 use Rattle.std.specs.Prelude.{◌≡◌, ◌<◌, ◌≤◌, ◌+◌, ◌⊎◌, ℕ, suc, Bool, true, false, List, [], ◌∷◌, ◌++◌, take, length}
 use Rattle.cspf_model.specs.declared.link.Link.{Link}
 use Rattle.cspf_rows.specs.Records.{rows_of}
-use Rattle.cspf_stream.specs.RowAnswers.{AreAnswered}
+use Rattle.cspf_stream.specs.RowAnswers.{AnswersOf, AreAnswered}
+use Rattle.cspf_book_run.specs.BookRows.{book_row_of}
+use Rattle.cspf_book_run.specs.OutOfMemory.{IsRefusedByMemory}
 use Rattle.cspf_book_run.specs.BookScript.{BookRunState, AreBookRowsAnswered, book_answers, going_on}
 use Rattle.cspf_book_run.specs.Compacts.{AreAllTaken}
 use Rattle.cspf_book_run.specs.BookScriptLaws.{IsSaidOver}
@@ -34,13 +36,19 @@ abbrev pub KeptIsTheBook : Type 0
 KeptIsTheBook =
     (rows : List (List (List ℕ))) (text : List ℕ) (t : BookRunState) → AreBookRowsKept rows text t → RemakesBook text (length rows) t
 
+-- Row `place`, counted from 1, is answered, and `text` goes to `keep` for this row. Or memory is
+-- refused, the row is refused by `memory`, and no text goes to `keep`.
+abbrev pub kept_or_out_answers : AnswersOf BookRunState
+kept_or_out_answers place s fields text t =
+    kept_answers place s fields text t ⊎ ((text ≡ []) × (line : List ℕ) × IsRefusedByMemory place s (book_row_of fields) line t)
+
 -- Let a run go on with the book of earlier rows, of which none was refused and whose changes all
--- have their end row. Let it answer some rows, and let `text` go to `keep`. Then a run over the
--- earlier rows and this text ends with the same book.
+-- have their end row. Let it answer some rows or refuse them by `memory`, and let `text` go to
+-- `keep`. Then a run over the earlier rows and this text ends with the same book.
 abbrev pub KeptBehindIsTheBook : Type 0
 KeptBehindIsTheBook =
     (earlier rows : List (List (List ℕ))) (begun : BookRunState) (skipped : ℕ) (text : List ℕ) (t : BookRunState) → AreAllTaken earlier begun → begun.changes ≡ []
-    → AreAnswered kept_answers 1 (going_on begun skipped) rows text t → RemakesBehind earlier text (length rows) t
+    → AreAnswered kept_or_out_answers 1 (going_on begun skipped) rows text t → RemakesBehind earlier text (length rows) t
 
 -- No write to `keep` has failed, and no write fails at these rows. The rows are answered as a book
 -- answers them, and exactly the texts of the accepted rows are written.

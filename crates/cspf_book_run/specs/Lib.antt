@@ -17,6 +17,7 @@ pub mod BookScriptLaws
 pub mod WrongRuns
 pub mod KeptLaws
 pub mod BookStates
+pub mod OutOfMemory
 pub mod KeptStates
 pub mod Compacts
 pub mod CompactStates

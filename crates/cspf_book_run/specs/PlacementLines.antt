@@ -28,6 +28,7 @@ held_words held.Full = codes "full"
 held_words held.Long = codes "long"
 held_words held.Twice = codes "twice"
 held_words held.Links = codes "links"
+held_words held.Memory = codes "memory"
 held_words (held.Failed fault) = write_fault_words fault
 
 -- the line that says why the placement with this id isn't restored

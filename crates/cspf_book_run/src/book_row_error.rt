@@ -9,7 +9,7 @@ use std::alloc::{AllocError, Global};
 use std::error::Error;
 use std::fmt;
 
-/// Why a record is no row of a book.
+/// Why a row of a book is refused by its number: its record is no row, or memory was refused.
 #[derive(Clone, Copy, Debug, PartialEq, Eq)]
 pub enum BookRowError {
     /// The reason isn't the route of a `held` row.
@@ -17,6 +17,8 @@ pub enum BookRowError {
     /// The last field of a `held` row doesn't spell a route, or the route doesn't lead to the
     /// request's tail-end.
     Route,
+    /// Memory was refused at the row. Only a server reports it; elsewhere the run ends.
+    Memory,
 }
 
 impl fmt::Display for BookRowError {
@@ -29,6 +31,7 @@ impl fmt::Display for BookRowError {
         match self {
             BookRowError::Row(error) => write!(f, "{error}"),
             BookRowError::Route => f.write_str("route"),
+            BookRowError::Memory => f.write_str("memory"),
         }
     }
 }

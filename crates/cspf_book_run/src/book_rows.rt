@@ -1,8 +1,9 @@
 //! The state of a run of a book: the rows of its base, with the book as their sink, and how many
 //! rows were read. Each row is answered from this state. Rows about placements go to the book.
 
-ghost use Rattle.std.specs.Prelude.{◌≡◌, ◌+◌, ◌<◌, ◌≤◌, nat_lt, [], false, IfOk, OnErr};
+ghost use Rattle.std.specs.Prelude.{◌≡◌, ◌+◌, ◌^◌, ◌<◌, ◌≤◌, nat_lt, [], false, cond, IfOk, Ok, OnOk, OnErr};
 ghost use Rattle.csv.specs.Records.{fields_of};
+ghost use Rattle.cspf_book_run.specs.OutOfMemory.{name_as_read};
 
 use crate::book_row::BookRow;
 use crate::book_row_error::{BookRowError, refused_book_row};
@@ -12,6 +13,7 @@ use crate::line::{TextResult, refused_place, refused_release};
 use crate::placement_line::{
     left_line, refused_held, refused_left, refused_offer, refused_show, show_line,
 };
+use crate::row_name::RowName;
 use crate::row_text::row_text;
 use cspf_addr::Addr;
 use cspf_book::{Book, Placement};
@@ -172,8 +174,91 @@ impl<S> BookRows<S> {
     ghost use Rattle.cspf_book.specs.PlacedRoutes.{ConnectsItsEnds};
     ghost use Rattle.cspf_book_run.specs.declared.book_row.BookRow.TheVariants as book_row;
     ghost use Rattle.cspf_stream.specs.RowCounts.{CanCountOneMore, GrowsByOneAtMost};
-    ghost use Rattle.cspf_book_run.specs.BookStates.{IsReadable, BookLeads};
-    ghost use Rattle.cspf_book_run.specs.KeptStates.{IsRowDone, IsRowLost, IsAnsweredDone, IsAnsweredLost};
+    ghost use Rattle.cspf_book_run.specs.BookStates.{IsBookBefore, IsReadable, BookLeads};
+    ghost use Rattle.cspf_book_run.specs.KeptStates.{IsRowDone, IsAnsweredDone, IsAnsweredLost, IsAnsweredOrOut, IsBookAnswerLost, IsBookAnswerOrOut};
+    ghost use Rattle.cspf_book_run.specs.OutOfMemory.{is_batch_name, memory_line};
+    ghost use Rattle.cspf_model.specs.declared.batch.Change.{Change as Changed};
+    ghost use Rattle.cspf_stream.specs.OpenChanges.{AreOpen};
+
+    /// Answers row `place`, counted from 1, as `answer` does. But if memory is refused, the row is
+    /// refused by `memory`, the book is unchanged, and the same row may come again. As with each
+    /// refused batch, the open changes are dropped if it is an end row. Returns an error if memory is
+    /// also refused for the line that refuses the row.
+    pub fn answer_or_refuse<C>(
+        &mut self,
+        context: &C,
+        alloc: Global,
+        place: u64,
+        fields: &ByteRecord,
+    ) -> Result<Vec<u8>, AllocError>
+    where
+        S: Keeps<C>,
+        requires { IsBookBefore place self.old }
+        ensures answered { IfOk result (λ line. IsBookAnswerOrOut S.spec place self.old
+            (fields_of fields.now) line.items self.new) }
+        ensures state { OnOk result (IsBookBefore (place + 1) self.new) }
+        ensures lost { OnErr result (IsBookAnswerLost S.spec place self.old
+            (fields_of fields.now) self.new) }
+    {
+        self.read += 1;
+        match BookRow::read(alloc, fields) {
+            Ok(row) => self.line_or_refusal(context, alloc, place, fields, row),
+            Err(_refused) => {
+                let refused = self.rows.refused;
+                self.refuse(alloc, place, RowName::Row, refused)
+            }
+        }
+    }
+
+    /// Answers a row, or refuses it by `memory`. `row` is how the fields are read.
+    fn line_or_refusal<C>(
+        &mut self,
+        context: &C,
+        alloc: Global,
+        place: u64,
+        fields: &ByteRecord,
+        row: Result<BookRow, BookRowError>,
+    ) -> TextResult
+    where
+        S: Keeps<C>,
+        requires few { CanCountOneMore self.old.rows }
+        requires row { IfOk row IsReadable }
+        ensures answered { IfOk result (λ line. BookLeads self.old.rows self.new.rows
+            (λ s t. IsAnsweredOrOut S.spec place s (fields_of fields.now) row line.items t
+            self.old.rows.sink.keeping self.new.rows.sink.keeping)) }
+        ensures lost { OnErr result (IsAnsweredLost S.spec (fields_of fields.now) row
+            self.old.rows self.new.rows) }
+        ensures counts { GrowsByOneAtMost self.old.rows self.new.rows }
+        ensures read { self.new.read ≡ self.old.read }
+    {
+        let (name, refused) = (name_of(&row), self.rows.refused);
+        match self.line_of(context, alloc, place, fields, row) {
+            Ok(line) => Ok(line),
+            Err(_refused) => self.refuse(alloc, place, name, refused),
+        }
+    }
+
+    /// Refuses the row with this name by `memory`. `refused` is how many refusals there were before
+    /// the row.
+    fn refuse(&mut self, alloc: Global, place: u64, name: RowName, refused: u64) -> TextResult
+        requires { refused + 1 < 2 ^ 64 }
+        ensures line { IfOk result (λ line. line.items ≡ memory_line place name) }
+        ensures open { OnOk result ((all : List Changed) → AreOpen self.old.rows.changes all
+            → AreOpen self.new.rows.changes (cond (is_batch_name name) [] all)) }
+        ensures few { self.new.rows.changes.count ≤ self.old.rows.changes.count }
+        ensures refused { OnOk result (self.new.rows.refused ≡ refused + 1) }
+        ensures sink { self.new.rows.sink ≡ self.old.rows.sink }
+        ensures answers { self.new.rows.answers ≡ self.old.rows.answers }
+        ensures read { self.new.read ≡ self.old.read }
+        ensures lost { OnErr result (self.new ≡ self.old) }
+    {
+        let line = name.refusal(alloc, place)?;
+        if name.is_batch() {
+            self.rows.changes.clear();
+        }
+        self.rows.refused = refused + 1;
+        Ok(line)
+    }
 
     /// Answers row `place`, counted from 1, and returns the lines of the answer. A change is
     /// answered with no lines. `row` is how the fields are read.
@@ -222,7 +307,7 @@ impl<S> BookRows<S> {
         ensures answered { IfOk result (λ line. BookLeads self.old.rows self.new.rows
             (λ s t. IsRowDone S.spec s (fields_of fields.now) row line.items t
             self.old.rows.sink.keeping self.new.rows.sink.keeping)) }
-        ensures lost { OnErr result (IsRowLost S.spec (fields_of fields.now) row
+        ensures lost { OnErr result (IsAnsweredLost S.spec (fields_of fields.now) (Ok row)
             self.old.rows self.new.rows) }
         ensures counts { GrowsByOneAtMost self.old.rows self.new.rows }
         ensures read { self.new.read ≡ self.old.read }
@@ -257,8 +342,8 @@ impl<S> BookRows<S> {
         ensures answered { IfOk result (λ line. BookLeads self.old.rows self.new.rows
             (λ s t. IsRowDone S.spec s (fields_of fields.now) (book_row.Place request.now hold)
             line.items t self.old.rows.sink.keeping self.new.rows.sink.keeping)) }
-        ensures lost { OnErr result (IsRowLost S.spec (fields_of fields.now)
-            (book_row.Place request.now hold) self.old.rows self.new.rows) }
+        ensures lost { OnErr result (IsAnsweredLost S.spec (fields_of fields.now)
+            (Ok (book_row.Place request.now hold)) self.old.rows self.new.rows) }
         ensures counts { GrowsByOneAtMost self.old.rows self.new.rows }
         ensures read { self.new.read ≡ self.old.read }
     {
@@ -270,8 +355,9 @@ impl<S> BookRows<S> {
                 Ok(line)
             }
             Err(why) => {
+                let line = refused_place(alloc, request.id, why)?;
                 self.rows.refused += 1;
-                refused_place(alloc, request.id, why)
+                Ok(line)
             }
         }
     }
@@ -284,8 +370,8 @@ impl<S> BookRows<S> {
         ensures answered { IfOk result (λ line. BookLeads self.old.rows self.new.rows
             (λ s t. IsRowDone S.spec s (fields_of fields.now) (book_row.Release id) line.items t
             self.old.rows.sink.keeping self.new.rows.sink.keeping)) }
-        ensures lost { OnErr result (IsRowLost S.spec (fields_of fields.now)
-            (book_row.Release id) self.old.rows self.new.rows) }
+        ensures lost { OnErr result (IsAnsweredLost S.spec (fields_of fields.now)
+            (Ok (book_row.Release id)) self.old.rows self.new.rows) }
         ensures counts { GrowsByOneAtMost self.old.rows self.new.rows }
         ensures read { self.new.read ≡ self.old.read }
     {
@@ -294,8 +380,9 @@ impl<S> BookRows<S> {
         match found {
             Ok(line) => Ok(line),
             Err(why) => {
+                let line = refused_release(alloc, id, why)?;
                 self.rows.refused += 1;
-                refused_release(alloc, id, why)
+                Ok(line)
             }
         }
     }
@@ -315,8 +402,8 @@ impl<S> BookRows<S> {
         ensures answered { IfOk result (λ line. BookLeads self.old.rows self.new.rows
             (λ s t. IsRowDone S.spec s (fields_of fields.now) (book_row.Held placement)
             line.items t self.old.rows.sink.keeping self.new.rows.sink.keeping)) }
-        ensures lost { OnErr result (IsRowLost S.spec (fields_of fields.now)
-            (book_row.Held placement) self.old.rows self.new.rows) }
+        ensures lost { OnErr result (IsAnsweredLost S.spec (fields_of fields.now)
+            (Ok (book_row.Held placement)) self.old.rows self.new.rows) }
         ensures counts { GrowsByOneAtMost self.old.rows self.new.rows }
         ensures read { self.new.read ≡ self.old.read }
     {
@@ -326,8 +413,9 @@ impl<S> BookRows<S> {
         match found {
             Ok(lines) => Ok(lines),
             Err(why) => {
+                let line = refused_held(alloc, id, why)?;
                 self.rows.refused += 1;
-                refused_held(alloc, id, why)
+                Ok(line)
             }
         }
     }
@@ -343,7 +431,7 @@ impl<S> BookRows<S> {
             BookLeads self.old.rows self.new.rows
             (λ s t. IsRowDone S.spec s fields (book_row.Offer request.now hold)
             line.items t self.old.rows.sink.keeping self.new.rows.sink.keeping)) }
-        ensures lost { OnErr result (self.new.rows.sink ≡ self.old.rows.sink) }
+        ensures lost { OnErr result (self.new.rows ≡ self.old.rows) }
         ensures counts { GrowsByOneAtMost self.old.rows self.new.rows }
         ensures read { self.new.read ≡ self.old.read }
     {
@@ -354,8 +442,9 @@ impl<S> BookRows<S> {
                 Ok(line)
             }
             Err(why) => {
+                let line = refused_offer(alloc, request.id, why)?;
                 self.rows.refused += 1;
-                refused_offer(alloc, request.id, why)
+                Ok(line)
             }
         }
     }
@@ -369,7 +458,7 @@ impl<S> BookRows<S> {
             BookLeads self.old.rows self.new.rows
             (λ s t. IsRowDone S.spec s fields (book_row.Show id)
             line.items t self.old.rows.sink.keeping self.new.rows.sink.keeping)) }
-        ensures lost { OnErr result (self.new.rows.sink ≡ self.old.rows.sink) }
+        ensures lost { OnErr result (self.new.rows ≡ self.old.rows) }
         ensures counts { GrowsByOneAtMost self.old.rows self.new.rows }
         ensures read { self.new.read ≡ self.old.read }
     {
@@ -377,8 +466,9 @@ impl<S> BookRows<S> {
         match self.rows.sink.book().placement(id) {
             Some(placement) => show_line(alloc, version, placement),
             None => {
+                let line = refused_show(alloc, id)?;
                 self.rows.refused += 1;
-                refused_show(alloc, id)
+                Ok(line)
             }
         }
     }
@@ -392,7 +482,7 @@ impl<S> BookRows<S> {
             BookLeads self.old.rows self.new.rows
             (λ s t. IsRowDone S.spec s fields (book_row.Left from local)
             line.items t self.old.rows.sink.keeping self.new.rows.sink.keeping)) }
-        ensures lost { OnErr result (self.new.rows.sink ≡ self.old.rows.sink) }
+        ensures lost { OnErr result (self.new.rows ≡ self.old.rows) }
         ensures counts { GrowsByOneAtMost self.old.rows self.new.rows }
         ensures read { self.new.read ≡ self.old.read }
     {
@@ -400,9 +490,20 @@ impl<S> BookRows<S> {
         match self.rows.sink.book().left(from, local) {
             Some(figures) => left_line(alloc, from, local, version, &figures),
             None => {
+                let line = refused_left(alloc, from, local)?;
                 self.rows.refused += 1;
-                refused_left(alloc, from, local)
+                Ok(line)
             }
         }
+    }
+}
+
+/// What a row is called in the line that refuses it by `memory`.
+fn name_of(row: &Result<BookRow, BookRowError>) -> RowName
+    ensures { result ≡ name_as_read row.now }
+{
+    match row {
+        Ok(row) => RowName::of(row),
+        Err(_unread) => RowName::Row,
     }
 }

@@ -188,7 +188,7 @@ impl<S> BookSink<S> {
         ensures same { IfOk result (λ found. OnErr found (self.new.book ≡ self.old.book)) }
         ensures batches { self.new.batches ≡ self.old.batches }
         ensures skipped { self.new.skipped ≡ self.old.skipped }
-        ensures lost { OnErr result (self.new.keeping ≡ self.old.keeping) }
+        ensures lost { OnErr result (self.new ≡ self.old) }
     {
         if self.keeper.keeping.is_stopped() {
             return Ok(Err(PlaceRefusal::Stopped));
@@ -238,7 +238,7 @@ impl<S> BookSink<S> {
         ensures same { IfOk result (λ found. OnErr found (self.new.book ≡ self.old.book)) }
         ensures batches { self.new.batches ≡ self.old.batches }
         ensures skipped { self.new.skipped ≡ self.old.skipped }
-        ensures lost { OnErr result (self.new.keeping ≡ self.old.keeping) }
+        ensures lost { OnErr result (self.new ≡ self.old) }
     {
         if self.keeper.keeping.is_stopped() {
             return Ok(Err(ReleaseRefusal::Stopped));
@@ -287,7 +287,7 @@ impl<S> BookSink<S> {
         ensures same { IfOk result (λ found. OnErr found (self.new.book ≡ self.old.book)) }
         ensures batches { self.new.batches ≡ self.old.batches }
         ensures skipped { self.new.skipped ≡ self.old.skipped }
-        ensures lost { OnErr result (self.new.keeping ≡ self.old.keeping) }
+        ensures lost { OnErr result (self.new ≡ self.old) }
     {
         if self.keeper.keeping.is_stopped() {
             return Ok(Err(HeldRefusal::Stopped));

@@ -25,6 +25,8 @@ pub enum HeldRefusal {
     Twice,
     /// The routes of all placements would have more than `MOST_ROUTES_LINKS` links.
     Links,
+    /// Memory was refused at the row. Only a server reports it; elsewhere the run ends.
+    Memory,
     /// A write failed while the row was accepted.
     Failed(WriteFault),
 }
@@ -44,6 +46,7 @@ impl fmt::Display for HeldRefusal {
             HeldRefusal::Long => f.write_str("long"),
             HeldRefusal::Twice => f.write_str("twice"),
             HeldRefusal::Links => f.write_str("links"),
+            HeldRefusal::Memory => f.write_str("memory"),
             HeldRefusal::Failed(fault) => write!(f, "{fault}"),
         }
     }

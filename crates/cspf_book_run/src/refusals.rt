@@ -23,6 +23,8 @@ pub enum PlaceRefusal {
     Twice,
     /// The best route has more than `MOST_PLACED_LINKS` links.
     Long,
+    /// Memory was refused at the row. Only a server reports it; elsewhere the run ends.
+    Memory,
     /// A write failed while the row was accepted.
     Failed(WriteFault),
 }
@@ -41,6 +43,7 @@ impl fmt::Display for PlaceRefusal {
             PlaceRefusal::Links => f.write_str("links"),
             PlaceRefusal::Twice => f.write_str("twice"),
             PlaceRefusal::Long => f.write_str("long"),
+            PlaceRefusal::Memory => f.write_str("memory"),
             PlaceRefusal::Failed(fault) => write!(f, "{fault}"),
         }
     }
@@ -88,6 +91,8 @@ pub enum ReleaseRefusal {
     Exhausted,
     /// No placement has this id.
     Absent,
+    /// Memory was refused at the row. Only a server reports it; elsewhere the run ends.
+    Memory,
     /// A write failed while the row was accepted.
     Failed(WriteFault),
 }
@@ -103,6 +108,7 @@ impl fmt::Display for ReleaseRefusal {
             ReleaseRefusal::Stopped => f.write_str("stopped"),
             ReleaseRefusal::Exhausted => f.write_str("exhausted"),
             ReleaseRefusal::Absent => f.write_str("absent"),
+            ReleaseRefusal::Memory => f.write_str("memory"),
             ReleaseRefusal::Failed(fault) => write!(f, "{fault}"),
         }
     }

@@ -29,7 +29,7 @@ use Rattle.cspf_book_run.specs.BookRows.{book_row_of}
 use Rattle.cspf_book_run.specs.BookScript.{BookRunState}
 use Rattle.cspf_book_run.specs.BookStates.{KeepsBook}
 use Rattle.cspf_book_run.specs.Kept.{text_of_row}
-use Rattle.cspf_book_run.specs.KeptStates.{IsRowFailed, IsAnsweredDone, IsAnsweredLost, IsBookLast}
+use Rattle.cspf_book_run.specs.KeptStates.{IsRowFailed, IsAnsweredDone, IsAnsweredOrOut, IsKeepLost, IsBookLast}
 use Rattle.cspf_book_run.specs.declared.book_row.BookRow.{BookRow}
 use Rattle.cspf_book_run.specs.declared.book_row_error.BookRowError.{BookRowError}
 use Rattle.cspf_book_run.specs.declared.write_fault.WriteFault.{WriteFault}
@@ -39,7 +39,7 @@ use Rattle.cspf_serve.specs.PublishingRuns.{IsLastPut, IsStreamRun, IsPublishing
 use Rattle.cspf_serve.specs.declared.serving.served_run.Served.{Served}
 use Rattle.cspf_serve.proofs.ServedSteps.{status_iff}
 use Rattle.cspf_book_serve.specs.BookUpdates.{IsUpdateAnswer, IsUpdateAnswerLost, book_updates_spec}
-use Rattle.cspf_book_serve.specs.ServedBooks.{ServedBookState, served_book_answers, served_book_fails, IsRowUnsaid, IsBeginning, IsBegunBy, first_served, begin_lines, ArePublishedBooks, IsServedBookRun, HasRefusals, IsServedBook}
+use Rattle.cspf_book_serve.specs.ServedBooks.{ServedBookState, served_book_answers, served_book_fails, IsBeginning, IsBegunBy, first_served, begin_lines, ArePublishedBooks, IsServedBookRun, HasRefusals, IsServedBook}
 use Rattle.cspf_book_serve.specs.ShownStates.{shown_spec, IsShownBy, IsUnshownBy, Shows}
 use Rattle.cspf_book_serve.specs.ShownTexts.{ShownState, IsShownNext, IsUnshown, shown_texts, as_next}
 use Rattle.cspf_book_serve.specs.declared.book_updates.BookUpdates.{BookUpdates}
@@ -166,6 +166,25 @@ module _ {J K : Type 0} (recorded : J → Option (List ℕ)) (kept : K → Optio
         (d.0, d.1, inr (inl d.2))
     sim_done place (Ok row) (inr (inr (stops, taken, same))) = (s, sim_same k k' s shows same, inr (inr (sym shows.stopped ∙ stops, taken, refl)))
 
+  module _ (r : BookRunState) (fields : List (List ℕ)) (k k' : Shown J K) (s : ShownState) (shows : Shows recorded kept first start k s) where
+    -- Memory is refused at a row, as the specification says.
+    sim_lost : (row : Result BookRow BookRowError) → IsKeepLost (shown_spec recorded kept) r fields row k k' → (s' : ShownState) × ShowsOf k' s' × IsKeepLost shown_texts r fields row s s'
+    sim_lost (Err e) same = (s, sim_same k k' s shows same, refl)
+    sim_lost (Ok row) (inl same) = (s, sim_same k k' s shows same, inl refl)
+    sim_lost (Ok row) (inr (line, t, f)) =
+        let d = sim_failed r fields line t k k' s shows row f in
+        (d.0, d.1, inr (line, t, d.2))
+
+    -- A row is answered or refused by `memory`, as the specification says.
+    sim_said : (place : ℕ) (line : List ℕ) (t : BookRunState) (row : Result BookRow BookRowError) → IsAnsweredOrOut (shown_spec recorded kept) place r fields row line t k k'
+        → (s' : ShownState) × ShowsOf k' s' × IsAnsweredOrOut shown_texts place r fields row line t s s'
+    sim_said place line t row (inl done) =
+        let d = sim_done r fields line t k k' s shows place row done in
+        (d.0, d.1, inl d.2)
+    sim_said place line t row (inr (out, lost)) =
+        let d = sim_lost row lost in
+        (d.0, d.1, inr (out, d.2))
+
   -- The code keeps the state of the run, and has written and published what this state says.
   pub record IsBookAsServed (u : BookUpdates J K) (s : ServedBookState) : Type 0 where
     pub keeps : KeepsBook u.rows.rows s.run
@@ -184,7 +203,7 @@ module _ {J K : Type 0} (recorded : J → Option (List ℕ)) (kept : K → Optio
       → (t : ServedBookState) × IsBookAsServed u' t × served_book_answers place s fields line t
   one_row place u u' s fields line at a =
       let led = a.lead s.run at.keeps in
-      let d = sim_done s.run fields line led.0 u.rows.rows.sink.keeping u'.rows.rows.sink.keeping s.shown at.shows place (book_row_of fields) led.2 in
+      let d = sim_said s.run fields u.rows.rows.sink.keeping u'.rows.rows.sink.keeping s.shown at.shows place line led.0 (book_row_of fields) led.2 in
       (record { run = led.0; shown = d.0 }, record { keeps = led.1; shows = d.1 }, d.2)
 
   -- The specification's state says whether there were refusals, as the code does.
@@ -219,24 +238,10 @@ module _ {J K : Type 0} (recorded : J → Option (List ℕ)) (kept : K → Optio
   unknown_only u s shown (inr opened) = absurd (omega (arith, opened))
 
   -- Memory is refused at a row, and only the state of the run isn't known.
-  lost_shown : (u' : BookUpdates J K) (s : ServedBookState) (fields : List (List ℕ)) (row : BookRow) (k : Shown J K) → ShowsOf k s.shown
-      → (u'.rows.rows.sink.keeping ≡ k) ⊎ ((line : List ℕ) × (t : BookRunState) × IsRowFailed (shown_spec recorded kept) s.run fields row line t k u'.rows.rows.sink.keeping)
-      → (shown : ShownState) × ShowsOf u'.rows.rows.sink.keeping shown × IsRowUnsaid s fields (Ok row) (record { run = unknown_run u' s.run; shown = shown })
-  lost_shown u' s fields row k shows (inl same) = (s.shown, sim_same k u'.rows.rows.sink.keeping s.shown shows same, inl refl)
-  lost_shown u' s fields row k shows (inr (line, t, f)) =
-      let d = sim_failed s.run fields line t k u'.rows.rows.sink.keeping s.shown shows row f in
-      (d.0, d.1, inr (line, t, d.2))
-
-  lost_row : (u u' : BookUpdates J K) (s : ServedBookState) (fields : List (List ℕ)) (row : Result BookRow BookRowError) → IsBookAsServed u s
-      → IsAnsweredLost (shown_spec recorded kept) fields row u.rows.rows u'.rows.rows
-      → (shown : ShownState) × ShowsOf u'.rows.rows.sink.keeping shown × IsRowUnsaid s fields row (record { run = unknown_run u' s.run; shown = shown })
-  lost_row u u' s fields (Err e) at lost = (s.shown, sim_same u.rows.rows.sink.keeping u'.rows.rows.sink.keeping s.shown at.shows lost, refl)
-  lost_row u u' s fields (Ok row) at lost = lost_shown u' s fields row u.rows.rows.sink.keeping at.shows (lost s.run at.keeps)
-
   one_lost : (why : AllocError) (place : ℕ) (u u' : BookUpdates J K) (s : ServedBookState) (fields : List (List ℕ)) → IsBookAsServed u s → IsUpdateAnswerLost recorded kept place u fields u'
       → (t : ServedBookState) × IsBookAfter u' t × served_book_fails why place s fields t
   one_lost why place u u' s fields at lost =
-      let d = lost_row u u' s fields (book_row_of fields) at lost in (
+      let d = sim_lost s.run fields u.rows.rows.sink.keeping u'.rows.rows.sink.keeping s.shown at.shows (book_row_of fields) (lost s.run at.keeps).1 in (
         record { run = unknown_run u' s.run; shown = d.0 },
         record { shows = d.1; refusals = (unknown_if u' s.run d.0, unknown_only u' s.run d.0) },
         d.2,

@@ -25,16 +25,16 @@ use Rattle.cspf_book.specs.Placements.{placement_of}
 use Rattle.cspf_book_run.specs.BookRows.{book_row_of}
 use Rattle.cspf_book_run.specs.BookScript.{BookRunState, name_of, IsBookStepAnswered, IsBookRowTaken}
 use Rattle.cspf_book_run.specs.KeptRuns.{by_fault}
-use Rattle.cspf_book_run.specs.KeptStates.{IsAnsweredDone}
+use Rattle.cspf_book_run.specs.KeptStates.{IsAnsweredDone, IsAnsweredOrOut, IsKeepLost}
 use Rattle.cspf_book_run.specs.declared.book_row.BookRow.{BookRow}
 use Rattle.cspf_book_run.specs.declared.book_row.BookRow.TheVariants as book_row
 use Rattle.cspf_book_run.specs.declared.book_row_error.BookRowError.{BookRowError}
 use Rattle.cspf_book_run.specs.declared.write_fault.WriteFault.{WriteFault}
 use Rattle.cspf_book_run.specs.declared.write_fault.WriteFault.TheVariants as fault
 use Rattle.cspf_book_run.proofs.Looks.{shown_looks, left_looks, look_same}
-use Rattle.cspf_book_serve.proofs.SameBooks.{HasSameBook, same_from, unkept_has_same, stopped_has_same}
+use Rattle.cspf_book_serve.proofs.SameBooks.{HasSameBook, memory_has_same, same_from, unkept_has_same, stopped_has_same}
 use Rattle.cspf_book_serve.specs.ShownTexts.{ShownState, shown_texts, as_next, IsUnshown}
-use Rattle.cspf_book_serve.specs.ServedBooks.{ServedBookState, served_book_answers, served_book_fails, IsRowUnsaid, IsBegunBy, first_served, ShowsBook, ArePublishedBooks, IsServedBookRun, RowsShowBooks}
+use Rattle.cspf_book_serve.specs.ServedBooks.{ServedBookState, served_book_answers, served_book_fails, IsBegunBy, first_served, ShowsBook, ArePublishedBooks, IsServedBookRun, RowsShowBooks}
 
 abbrev Rows : Type 0
 Rows = List (List (List ℕ))
@@ -94,6 +94,16 @@ row_publishes place s t fields (Ok row) line (inr (inl f)) =
     publishes_none s t (unkept_has_same (by_fault f.why) s.run t.run row line f.refused) (unshown_publishes_none s.shown _ f.cut_off.0 f.why t.shown f.cut_off.2)
 row_publishes place s t fields (Ok row) line (inr (inr (stopped, a, same))) =
     publishes_none s t (stopped_has_same s.run t.run row line a) (ap (λ (x : ShownState). x.published) same)
+
+lost_publishes_none : (r : BookRunState) (s t : ShownState) (fields : List (List ℕ)) (row : Result BookRow BookRowError) → IsKeepLost shown_texts r fields row s t → t.published ≡ s.published
+lost_publishes_none r s t fields (Err e) same = ap (λ (x : ShownState). x.published) same
+lost_publishes_none r s t fields (Ok row) (inl same) = ap (λ (x : ShownState). x.published) same
+lost_publishes_none r s t fields (Ok row) (inr (line, after, f)) = unshown_publishes_none s _ f.cut_off.0 f.why t f.cut_off.2
+
+said_publishes : (place : ℕ) (s t : ServedBookState) (fields : List (List ℕ)) (row : Result BookRow BookRowError) (line : List ℕ)
+    → IsAnsweredOrOut shown_texts place s.run fields row line t.run s.shown t.shown → PublishesAtMostOne s t
+said_publishes place s t fields row line (inl done) = row_publishes place s t fields row line done
+said_publishes place s t fields row line (inr (out, lost)) = publishes_none s t (memory_has_same place s.run t.run row line out) (lost_publishes_none s.run s.shown t.shown fields row lost)
 
 none_keeps : (s t : ServedBookState) → t.run.skipped ≡ s.run.skipped → NoneIsPublished s t → ShowsBook s → ShowsBook t
 none_keeps s t skipped (same, none) k =
@@ -199,7 +209,7 @@ rows_publish place first after [] lines k (quiet, same) =
       each = λ v from to. version_before place first [] after.shown.published [] v k whole (omega (arith, from, to, many));
     }
 rows_publish place first after (fields ∷ rows) lines k (line, next, others, a, is, rest) =
-    let row = row_publishes place first next fields (book_row_of fields) line a in
+    let row = said_publishes place first next fields (book_row_of fields) line a in
     let further = rows_publish (suc place) next after rows others (row_keeps first next row k) rest in
     let grows = row_grows first next row.published in
     let whole : after.shown.published ≡ first.shown.published ++ (grows.more ++ further.more) =
@@ -276,11 +286,6 @@ row_begins : (all left : Option Rows) (done rest : Rows) (fields : List (List �
 row_begins None left done rest fields is = tt
 row_begins (Some rows) left done rest fields is = (fields ∷ rest, sym is.0)
 
-unsaid_publishes_none : (s t : ServedBookState) (fields : List (List ℕ)) (row : Result BookRow BookRowError) → IsRowUnsaid s fields row t → t.shown.published ≡ s.shown.published
-unsaid_publishes_none s t fields (Err e) same = ap (λ (x : ShownState). x.published) same
-unsaid_publishes_none s t fields (Ok row) (inl same) = ap (λ (x : ShownState). x.published) same
-unsaid_publishes_none s t fields (Ok row) (inr (line, after, f)) = unshown_publishes_none s.shown _ f.cut_off.0 f.why t.shown f.cut_off.2
-
 module _ (all left : Option Rows) (first after : ServedBookState) (old new : Option (List ℕ)) (shows : ShowsBook first) where
   -- All rows of the stream are answered.
   books_of_all : (mid : Option (List ℕ)) → AreAllAnswered served_book_answers all first after old mid → ArePublishedBooks first all after.shown.published
@@ -302,7 +307,7 @@ module _ (all left : Option Rows) (first after : ServedBookState) (old new : Opt
   books_unsaid : (why : AllocError) → StopsInRow served_book_answers (served_book_fails why) error.Memory all left first after old new → ArePublishedBooks first all after.shown.published
   books_unsaid why a =
       let before = published_by all first a.before a.done a.lines shows (row_begins all left a.done a.rest a.fields a.split) a.answered in
-      subst (ArePublishedBooks first all) (sym (unsaid_publishes_none a.before after a.fields (book_row_of a.fields) a.stops.0)) before
+      subst (ArePublishedBooks first all) (sym (lost_publishes_none a.before.run a.before.shown after.shown a.fields (book_row_of a.fields) a.stops.0)) before
 
   books_stopped : (why : StreamError) (failed : Bool) → HasStopped served_book_answers NeverFails why all left failed first after old new → ArePublishedBooks first all after.shown.published
   books_stopped error.Memory failed (inl (fails, a)) = books_between a

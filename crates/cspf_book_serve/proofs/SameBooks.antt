@@ -1,5 +1,5 @@
 -- Rows that leave the book of a run unchanged: refused rows, and rows after a write has failed.
-use Rattle.std.proofs.Common.{◌≡◌, List, ℕ, refl, ap, ◌∙◌}
+use Rattle.std.proofs.Common.{◌≡◌, List, ℕ, Result, refl, ap, ◌∙◌}
 use Rattle.cspf_rows.specs.Steps.{step_of}
 use Rattle.cspf_rows.specs.declared.step.Step.{Step}
 use Rattle.cspf_rows.specs.declared.step.Step.TheVariants as step
@@ -9,7 +9,11 @@ use Rattle.cspf_book.specs.LinkFigures.{figures_at}
 use Rattle.cspf_book.specs.Placements.{placement_of}
 use Rattle.cspf_book_run.specs.BookScript.{BookRunState}
 use Rattle.cspf_book_run.specs.KeptRuns.{RowRefusals, by_stopped, IsEndUnkept, IsRowUnkept, IsStepStopped, IsTakenStopped}
+use Rattle.cspf_book_run.specs.OutOfMemory.{after_memory, IsRefusedByMemory}
 use Rattle.cspf_book_run.specs.declared.book_row.BookRow.{BookRow}
+use Rattle.cspf_book_run.specs.declared.book_row_error.BookRowError.{BookRowError}
+use Rattle.cspf_book_run.specs.declared.row_name.RowName.{RowName}
+use Rattle.cspf_book_run.specs.declared.row_name.RowName.TheVariants as name
 use Rattle.cspf_book_run.specs.declared.book_row.BookRow.TheVariants as book_row
 use Rattle.cspf_book_run.proofs.Looks.{Looks, shown_looks, left_looks, look_same}
 
@@ -37,6 +41,14 @@ look_has_same s t look = record {
   batches = look_same (λ (x : BookRunState). x.batches) s t refl look;
   restored = look_same (λ (x : BookRunState). x.restored) s t refl look;
 }
+
+-- A row that is refused by `memory` leaves the book unchanged.
+memory_same : (s t : BookRunState) (called : RowName) → t ≡ after_memory s called → HasSameBook s t
+memory_same s t (name.Batch number) is = same_from s t _ is refl refl refl refl
+memory_same s t other is = same_from s t _ is refl refl refl refl
+
+pub memory_has_same : (place : ℕ) (s t : BookRunState) (row : Result BookRow BookRowError) (line : List ℕ) → IsRefusedByMemory place s row line t → HasSameBook s t
+memory_has_same place s t row line out = memory_same s t out.called out.after
 
 end_has_same : (why : BatchRefusal) (s t : BookRunState) (asked : Step) (line : List ℕ) → IsEndUnkept why s asked line t → HasSameBook s t
 end_has_same why s t (step.End number count) line (said, is) = same_from s t _ is refl refl refl refl

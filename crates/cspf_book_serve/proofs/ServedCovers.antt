@@ -22,13 +22,13 @@ use Rattle.cspf_book_run.specs.BookRows.{book_row_of}
 use Rattle.cspf_book_run.specs.BookScript.{BookRunState, changers}
 use Rattle.cspf_book_run.specs.BookScriptLaws.{IsSaidOver}
 use Rattle.cspf_book_run.specs.KeptRuns.{by_fault}
-use Rattle.cspf_book_run.specs.KeptStates.{IsAnsweredDone}
+use Rattle.cspf_book_run.specs.KeptStates.{IsAnsweredDone, IsAnsweredOrOut}
 use Rattle.cspf_book_run.specs.declared.book_row.BookRow.{BookRow}
 use Rattle.cspf_book_run.specs.declared.book_row_error.BookRowError.{BookRowError}
 use Rattle.cspf_book_run.specs.BookStates.{IsReadable}
 use Rattle.cspf_book_run.proofs.BookCovered.{KeepCovered, KeepsCover, stays, both_cover, row_covers, said_among, said_first, said_second}
 use Rattle.cspf_book_run.proofs.BookRowLemmas.{readable_row}
-use Rattle.cspf_book_serve.proofs.SameBooks.{HasSameBook, unkept_has_same, stopped_has_same}
+use Rattle.cspf_book_serve.proofs.SameBooks.{HasSameBook, memory_has_same, unkept_has_same, stopped_has_same}
 use Rattle.cspf_book_serve.specs.ServedBookLaws.{BeginningsSayOver, ServedRowsCoverSince, PublishedBooksAreCovered}
 use Rattle.cspf_book_serve.specs.ServedBooks.{ServedBookState, served_book_answers, first_served, begin_lines, IsPublishedBook}
 use Rattle.cspf_book_serve.specs.ShownTexts.{shown_texts}
@@ -101,12 +101,17 @@ module _ (l : Link) (priority : ℕ) where
     row_kept place s t fields (Ok row) line readable (inr (inl f)) = same_covers s.run t.run line (unkept_has_same (by_fault f.why) s.run t.run row line f.refused)
     row_kept place s t fields (Ok row) line readable (inr (inr (stopped, a, same))) = same_covers s.run t.run line (stopped_has_same s.run t.run row line a)
 
+    said_row : (place : ℕ) (s t : ServedBookState) (fields : List (List ℕ)) (row : Result BookRow BookRowError) (line : List ℕ) → IfOk row IsReadable
+        → IsAnsweredOrOut shown_texts place s.run fields row line t.run s.shown t.shown → KeepsCover l priority s.run t.run line
+    said_row place s t fields row line readable (inl done) = row_kept place s t fields row line readable done
+    said_row place s t fields row line readable (inr (out, lost)) = same_covers s.run t.run line (memory_has_same place s.run t.run row line out)
+
     pub served_cover : (place : ℕ) (s t : ServedBookState) (rows : Rows) (lines : List ℕ) → AreAnswered served_book_answers place s rows lines t → KeepsCover l priority s.run t.run lines
     unfolding AreAnswered
     served_cover place s t [] lines (none, same) =
         stays l priority s.run t.run lines (ap (λ (x : ServedBookState). changers x.run) same) (ap (λ (x : ServedBookState). x.run.book) same)
     served_cover place s t (fields ∷ rows) lines (line, next, more, a, split, rest) =
-        both_cover l priority s.run next.run t.run lines line more split (row_kept place s next fields (book_row_of fields) line (readable_row fields) a) (served_cover (suc place) next t rows more rest)
+        both_cover l priority s.run next.run t.run lines line more split (said_row place s next fields (book_row_of fields) line (readable_row fields) a) (served_cover (suc place) next t rows more rest)
 
 pub served_rows_cover_since : KeepCovered → ServedRowsCoverSince
 served_rows_cover_since laws place s t rows lines a l priority there below covered =

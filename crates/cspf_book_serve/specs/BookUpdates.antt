@@ -4,15 +4,13 @@ use Rattle.std.proofs.Common.{inl, inr, ap}
 use Rattle.cspf_model.specs.Numbered.{NumberedChanges}
 use Rattle.cspf_stream.specs.RowAnswers.{AnswersOf}
 use Rattle.cspf_stream.specs.StreamStops.{FailsOf}
-use Rattle.cspf_stream.specs.declared.rows.Rows.{Rows}
 use Rattle.cspf_serve.specs.Counted.{CountedState}
 use Rattle.cspf_serve.specs.Publishing.{PublishingSpec, HasOneSource}
 use Rattle.cspf_book_run.specs.BookRows.{book_row_of}
 use Rattle.cspf_book_run.specs.BookScript.{BookRunState}
-use Rattle.cspf_book_run.specs.BookSinks.{BookSinkState}
 use Rattle.cspf_book_run.specs.BookStates.{KeepsBook, IsBookBefore}
 use Rattle.cspf_book_run.specs.Kept.{text_of_row}
-use Rattle.cspf_book_run.specs.KeptStates.{IsAnsweredDone, IsAnsweredLost, IsRowFailed, IsBookAnswer, IsBookAnswerLost, IsBookLast}
+use Rattle.cspf_book_run.specs.KeptStates.{IsAnsweredDone, IsAnsweredOrOut, IsKeepLost, IsRowFailed, IsBookAnswerOrOut, IsBookAnswerLost, IsBookLast}
 use Rattle.cspf_book_run.specs.declared.book_row.BookRow.{BookRow}
 use Rattle.cspf_book_run.specs.declared.book_row_error.BookRowError.{BookRowError}
 use Rattle.cspf_book_run.specs.declared.write_fault.WriteFault.{WriteFault}
@@ -24,9 +22,10 @@ use Rattle.cspf_book_serve.specs.declared.shown.Shown.{Shown}
 module _ {J K : Type 0} (recorded : J → Option (List ℕ)) (kept : K → Option (List ℕ)) where
   -- the row with the number `place`, counted from 1, is answered
   abbrev pub IsUpdateAnswer : AnswersOf (BookUpdates J K)
-  IsUpdateAnswer place old fields line new = IsBookAnswer (shown_spec recorded kept) place old.rows fields line new.rows
+  IsUpdateAnswer place old fields line new = IsBookAnswerOrOut (shown_spec recorded kept) place old.rows fields line new.rows
 
-  -- memory is refused at the row with the number `place`, counted from 1
+  -- memory is refused at the row with the number `place`, counted from 1, and also for the line that
+  -- refuses it by `memory`
   abbrev pub IsUpdateAnswerLost : FailsOf (BookUpdates J K)
   IsUpdateAnswerLost place old fields new = IsBookAnswerLost (shown_spec recorded kept) place old.rows fields new.rows
 
@@ -72,15 +71,15 @@ module _ {J K : Type 0} (recorded : J → Option (List ℕ)) (kept : K → Optio
   done_source place s fields (Ok row) line t old new (inr (inl f)) = failed_source s fields row line t old new f
   done_source place s fields (Ok row) line t old new (inr (inr (stops, taken, same))) = same_if_kept old new same
 
-  unsaid_source : (s : BookRunState) (fields : List (List ℕ)) (row : BookRow) (old new : Shown J K)
-      → (new ≡ old) ⊎ ((line : List ℕ) × (t : BookRunState) × IsRowFailed (shown_spec recorded kept) s fields row line t old new) → HasSameSource old new
-  unsaid_source s fields row old new (inl same) = same_if_kept old new same
-  unsaid_source s fields row old new (inr (line, t, f)) = failed_source s fields row line t old new f
+  lost_source : (s : BookRunState) (fields : List (List ℕ)) (row : Result BookRow BookRowError) (old new : Shown J K) → IsKeepLost (shown_spec recorded kept) s fields row old new → HasSameSource old new
+  lost_source s fields (Err e) old new same = same_if_kept old new same
+  lost_source s fields (Ok row) old new (inl same) = same_if_kept old new same
+  lost_source s fields (Ok row) old new (inr (line, t, f)) = failed_source s fields row line t old new f
 
-  lost_source : (s : BookRunState) (fields : List (List ℕ)) (row : Result BookRow BookRowError) (old new : Rows (BookSinkState (Shown J K))) → KeepsBook old s → IsAnsweredLost (shown_spec recorded kept) fields row old new
-      → HasSameSource old.sink.keeping new.sink.keeping
-  lost_source s fields (Err e) old new keeps lost = same_if_kept old.sink.keeping new.sink.keeping lost
-  lost_source s fields (Ok row) old new keeps lost = unsaid_source s fields row old.sink.keeping new.sink.keeping (lost s keeps)
+  said_source : (place : ℕ) (s : BookRunState) (fields : List (List ℕ)) (row : Result BookRow BookRowError) (line : List ℕ) (t : BookRunState) (old new : Shown J K)
+      → IsAnsweredOrOut (shown_spec recorded kept) place s fields row line t old new → HasSameSource old new
+  said_source place s fields row line t old new (inl done) = done_source place s fields row line t old new done
+  said_source place s fields row line t old new (inr (out, lost)) = lost_source s fields row old new lost
 
 -- The rows of a server's book keep the identity of the publisher's journal (its source).
 pub books_have_one_source : {J K F : Type 0} (recorded : J → Option (List ℕ)) (kept : K → Option (List ℕ))
@@ -88,6 +87,6 @@ pub books_have_one_source : {J K F : Type 0} (recorded : J → Option (List ℕ)
 books_have_one_source recorded kept = record {
   answered = λ before u u' fields line is a.
       let led = a.lead is.0 is.1 in
-      ((led.0, led.1), done_source recorded kept (suc before) is.0 fields (book_row_of fields) line led.0 u.rows.rows.sink.keeping u'.rows.rows.sink.keeping led.2);
-  failed = λ fault before u u' fields is a. lost_source recorded kept is.0 fields (book_row_of fields) u.rows.rows u'.rows.rows is.1 a;
+      ((led.0, led.1), said_source recorded kept (suc before) is.0 fields (book_row_of fields) line led.0 u.rows.rows.sink.keeping u'.rows.rows.sink.keeping led.2);
+  failed = λ fault before u u' fields is a. lost_source recorded kept is.0 fields (book_row_of fields) u.rows.rows.sink.keeping u'.rows.rows.sink.keeping (a is.0 is.1).1;
 }

@@ -16,8 +16,8 @@ use Rattle.cspf_book.specs.Laws.{IsCovered}
 use Rattle.cspf_book_run.specs.BookScript.{BookRunState, book_answers}
 use Rattle.cspf_book_run.specs.BookScriptLaws.{CoversSince, IsSaidOver}
 use Rattle.cspf_book_run.specs.Compacts.{AreAllTaken}
-use Rattle.cspf_book_run.specs.Kept.{kept_answers, kept_of}
-use Rattle.cspf_book_run.specs.KeptLaws.{RemakesBehind}
+use Rattle.cspf_book_run.specs.Kept.{kept_of}
+use Rattle.cspf_book_run.specs.KeptLaws.{RemakesBehind, kept_or_out_answers}
 use Rattle.cspf_book_run.specs.declared.write_fault.WriteFault.{WriteFault}
 use Rattle.cspf_book_run.specs.declared.write_fault.WriteFault.TheVariants as fault
 use Rattle.cspf_book_serve.specs.ServedBooks.{ServedBookState, served_book_answers, first_served, begin_lines, IsPublishedBook, IsServedBook}
@@ -66,7 +66,7 @@ pub record IsCutRow (earlier : Rows) (first : BookRunState) (rows : Rows) (text 
   pub rest : Rows
   pub split : rows ≡ done ++ fields ∷ rest
   pub before : BookRunState
-  pub kept : AreAnswered kept_answers 1 first done text before
+  pub kept : AreAnswered kept_or_out_answers 1 first done text before
   pub book : t.book ≡ before.book
   pub line : List ℕ
   pub next : BookRunState

@@ -26,9 +26,7 @@ use Rattle.cspf_book_run.specs.BookLines.{over_line}
 use Rattle.cspf_book_run.specs.BookRows.{book_row_of}
 use Rattle.cspf_book_run.specs.BookScript.{BookRunState, going_on, name_of}
 use Rattle.cspf_book_run.specs.Compacts.{AreAllTaken, IsCompactStop}
-use Rattle.cspf_book_run.specs.KeptStates.{IsAnsweredDone, IsRowFailed}
-use Rattle.cspf_book_run.specs.declared.book_row.BookRow.{BookRow}
-use Rattle.cspf_book_run.specs.declared.book_row_error.BookRowError.{BookRowError}
+use Rattle.cspf_book_run.specs.KeptStates.{IsAnsweredOrOut, IsKeepLost}
 use Rattle.cspf_serve.specs.PublishingRuns.{IsStreamRun, IsStatusOf}
 use Rattle.cspf_serve.specs.ServedRun.{AreServedFrom, AreStepsOfRun}
 use Rattle.cspf_serve.specs.declared.serving.served_run.Served.{Served}
@@ -46,21 +44,16 @@ pub record ServedBookState : Type 0 where
   -- what was written and published
   pub shown : ShownState
 
--- How a row with these fields is answered, and what is written and published for it.
+-- How a row with these fields is answered, and what is written and published for it. If memory is
+-- refused, the row is refused by `memory`. Then nothing is published for it, and nothing is written or
+-- one of its writes failed.
 abbrev pub served_book_answers : AnswersOf ServedBookState
-served_book_answers place s fields line t = IsAnsweredDone shown_texts place s.run fields (book_row_of fields) line t.run s.shown t.shown
+served_book_answers place s fields line t = IsAnsweredOrOut shown_texts place s.run fields (book_row_of fields) line t.run s.shown t.shown
 
--- Memory is refused at a row. Nothing is written or published for it, or one of its writes failed
--- and only the line that refuses it is missing. The book, the open changes and the counts after the
--- row aren't specified, because no row follows.
-abbrev pub IsRowUnsaid : ServedBookState → List (List ℕ) → Result BookRow BookRowError → ServedBookState → Type 0
-IsRowUnsaid s fields (Err e) t = t.shown ≡ s.shown
-IsRowUnsaid s fields (Ok row) t =
-    (t.shown ≡ s.shown) ⊎ ((line : List ℕ) × (after : BookRunState) × IsRowFailed shown_texts s.run fields row line after s.shown t.shown)
-
--- memory is refused at the row with these fields
+-- Memory is refused at the row with these fields, and also for the line that refuses it by `memory`.
+-- The book, the open changes and the counts after the row aren't specified, because no row follows.
 abbrev pub served_book_fails : AllocError → FailsOf ServedBookState
-served_book_fails fault place s fields t = IsRowUnsaid s fields (book_row_of fields) t
+served_book_fails fault place s fields t = IsKeepLost shown_texts s.run fields (book_row_of fields) s.shown t.shown
 
 -- ---- the beginning
 

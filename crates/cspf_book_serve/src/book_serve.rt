@@ -43,7 +43,9 @@ pub type ServedBook<W, J, K, Q, V> = Result<
 ///
 /// For each accepted row its lines are made, its text is written to `keep`, its batch to the journal,
 /// and the batch is published. Then the lines are written. Lines name the book's version by how many
-/// batches are published. The run ends when the updates and all clients have ended: `IsServedBook`.
+/// batches are published. If memory is refused at a row, the row is refused by `memory`, and the book
+/// is unchanged. If memory is also refused for the line of this refusal, no later row is read. The run
+/// ends when the updates and all clients have ended: `IsServedBook`.
 ///
 /// If an error is returned, no row of the updates and of the clients was read. If it is about the rows
 /// of the beginning, nothing was written.

@@ -34,7 +34,7 @@ impl<J: Write, K: Write, R: Wait> Answering<R> for BookUpdates<J, K> {
         place: u64,
         fields: &ByteRecord,
     ) -> Result<Vec<u8>, AllocError> {
-        self.rows.answer(rt, alloc, place, fields)
+        self.rows.answer_or_refuse(rt, alloc, place, fields)
     }
 }
 

@@ -104,7 +104,8 @@ the N of end,N,K counts batches of the base. The text of an accepted row goes to
 its batch to the journal, then it takes effect, and then its lines are written. If a write to --keep
 fails after W bytes, the row is refused by keep W. If a write to the journal fails, it is refused by
 journal W, and the next run has the row as a whole or not at all. Each later end, place, release, held
-and offer row is refused by stopped, and clients are answered on.
+and offer row is refused by stopped, and clients are answered on. If memory is refused at a row, the
+row is refused by memory. Then the book is as before, and the row may come again.
 
 --begin FILE has rows of a book, any number of them, which are read first. If one is refused, or changes
 are open at the end, standard output has only the line that says so, and the status is 2. What the book

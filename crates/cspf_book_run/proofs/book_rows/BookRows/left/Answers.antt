@@ -10,8 +10,6 @@ returns-in-Some-clause-answered g c = λ fields.
     (rw (c.in-Some.is, c.book.ensures) at c.left.ensures) c.named-version.ensures is)
     c.left_line.ensures
 
-pub returns-in-None-clause-answered : goal.returns-in-None-clause-answered
-returns-in-None-clause-answered g c = λ fields.
-    IfOk-weaker c.refused_left.result _ _
-    (λ line is. left_refused g.S.Keeps.spec fields c.args.self.now.rows _ refl refl c.args.from c.args.local line.items refl refl (rw (c.in-None.is, c.book.ensures) at c.left.ensures) is)
-    c.refused_left.ensures
+pub returns-in_ok-line-in-None-clause-answered : goal.returns-in_ok-line-in-None-clause-answered
+returns-in_ok-line-in-None-clause-answered g c = λ fields.
+    left_refused g.S.Keeps.spec fields c.args.self.now.rows _ refl refl c.args.from c.args.local c.in_ok-line-in-None.line.items refl refl (rw (c.in-None.is, c.book.ensures) at c.left.ensures) c.in_ok-line-in-None.ensures

@@ -1,7 +1,8 @@
-use Rattle.std.proofs.Common.{refl}
-use Rattle.std.proofs.lemmas.Result.{IfOk-weaker}
+use Rattle.std.proofs.Common.{Ok, inl, refl}
 use Rattle.csv.specs.Records.{fields_of}
 use Rattle.cspf_book_run.proofs.PlaceSteps.{place_answered, place_refused, place_lost, on_err}
+use Rattle.cspf_book_run.proofs.OutOfMemory.{kept_same, lost_same, lost_sink}
+use Rattle.cspf_book_run.specs.declared.book_row.BookRow.TheVariants as book_row
 use Rattle.cspf_book_run.proofs.book_rows.BookRows.place.Goals as goal
 
 pub returns-in-Ok-clause-answered : goal.returns-in-Ok-clause-answered
@@ -9,15 +10,23 @@ returns-in-Ok-clause-answered g c =
     place_answered g.S.Keeps.spec (fields_of c.args.fields.now) c.in_ok-text.text.items c.in_ok-text.ensures c.args.self.now.rows _ c.in_ok-found.ensures.batches c.in_ok-found.ensures.skipped refl c.args.request.now c.args.hold
     c.in-Ok.line.items (rw c.in-Ok.is at c.in_ok-found.ensures.placed) (rw c.in-Ok.is at c.in_ok-found.ensures.kept) refl refl
 
-pub returns-in-Err-clause-answered : goal.returns-in-Err-clause-answered
-returns-in-Err-clause-answered g c =
-    IfOk-weaker c.refused_place.result _ _
-    (λ line is. place_refused g.S.Keeps.spec (fields_of c.args.fields.now) c.in_ok-text.text.items c.in_ok-text.ensures c.args.self.now.rows _ c.in_ok-found.ensures.batches c.in_ok-found.ensures.skipped refl
-    (rw c.in-Err.is at c.in_ok-found.ensures.same) refl refl c.args.request.now c.args.hold c.in-Err.why line.items (rw c.in-Err.is at c.in_ok-found.ensures.refused) is)
-    c.refused_place.ensures
+pub returns-in_ok-line-in-Err-clause-answered : goal.returns-in_ok-line-in-Err-clause-answered
+returns-in_ok-line-in-Err-clause-answered g c =
+    place_refused g.S.Keeps.spec (fields_of c.args.fields.now) c.in_ok-text.text.items c.in_ok-text.ensures c.args.self.now.rows _ c.in_ok-found.ensures.batches c.in_ok-found.ensures.skipped refl
+    (rw c.in-Err.is at c.in_ok-found.ensures.same) refl refl c.args.request.now c.args.hold c.in-Err.why c.in_ok-line-in-Err.line.items (rw c.in-Err.is at c.in_ok-found.ensures.refused) c.in_ok-line-in-Err.ensures
 
-pub returns-in-Err-clause-lost : goal.returns-in-Err-clause-lost
-returns-in-Err-clause-lost g c =
-    on_err c.refused_place.result _
-    (place_lost g.S.Keeps.spec (fields_of c.args.fields.now) c.in_ok-text.text.items c.in_ok-text.ensures c.args.self.now.rows _
-    c.args.request.now c.args.hold c.in-Err.why (rw c.in-Err.is at c.in_ok-found.ensures.refused))
+pub returns-in_err-line-in-Err-clause-lost : goal.returns-in_err-line-in-Err-clause-lost
+returns-in_err-line-in-Err-clause-lost g c =
+    on_err c.from_residual-in_err-line-in-Err.result _ (λ s kept. (
+      inl (kept_same c.args.self.now.rows _ c.in_ok-found.ensures.batches c.in_ok-found.ensures.skipped refl (rw c.in-Err.is at c.in_ok-found.ensures.same) refl refl s kept),
+      place_lost g.S.Keeps.spec (fields_of c.args.fields.now) c.in_ok-text.text.items c.in_ok-text.ensures c.args.self.now.rows _
+          c.args.request.now c.args.hold c.in-Err.why (rw c.in-Err.is at c.in_ok-found.ensures.refused) s kept,
+    ))
+
+pub returns-in_err-found-clause-lost : goal.returns-in_err-found-clause-lost
+returns-in_err-found-clause-lost g c =
+    on_err c.from_residual-in_err-found.result _ (lost_sink g.S.Keeps.spec (fields_of c.args.fields.now) (Ok (book_row.Place c.args.request.now c.args.hold)) c.args.self.now.rows _ c.in_err-found.ensures.lost)
+
+pub returns-in_err-text-clause-lost : goal.returns-in_err-text-clause-lost
+returns-in_err-text-clause-lost g c =
+    on_err c.from_residual.result _ (lost_same g.S.Keeps.spec (fields_of c.args.fields.now) (Ok (book_row.Place c.args.request.now c.args.hold)) c.args.self.now.rows c.args.self.now.rows refl)

@@ -10,8 +10,6 @@ returns-in-Some-clause-answered g c = λ fields.
     (rw (c.in-Some.is, c.book.ensures) at c.placement.ensures) c.named-version.ensures is)
     c.show_line.ensures
 
-pub returns-in-None-clause-answered : goal.returns-in-None-clause-answered
-returns-in-None-clause-answered g c = λ fields.
-    IfOk-weaker c.refused_show.result _ _
-    (λ line is. show_refused g.S.Keeps.spec fields c.args.self.now.rows _ refl refl c.args.id line.items refl refl (rw (c.in-None.is, c.book.ensures) at c.placement.ensures) is)
-    c.refused_show.ensures
+pub returns-in_ok-line-in-None-clause-answered : goal.returns-in_ok-line-in-None-clause-answered
+returns-in_ok-line-in-None-clause-answered g c = λ fields.
+    show_refused g.S.Keeps.spec fields c.args.self.now.rows _ refl refl c.args.id c.in_ok-line-in-None.line.items refl refl (rw (c.in-None.is, c.book.ensures) at c.placement.ensures) c.in_ok-line-in-None.ensures

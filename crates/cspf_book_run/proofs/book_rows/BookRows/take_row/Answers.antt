@@ -1,8 +1,8 @@
+use Rattle.std.proofs.Common.{Ok}
 use Rattle.std.proofs.lemmas.Result.{IfOk-weaker, on_err_weaker}
 use Rattle.csv.specs.Records.{fields_of}
-use Rattle.std.proofs.Common.{inl, ap}
-use Rattle.cspf_book_run.specs.BookSinks.{BookSinkState}
 use Rattle.cspf_book_run.proofs.BookSteps.{base_row, base_lost}
+use Rattle.cspf_book_run.proofs.OutOfMemory.{lost_same}
 use Rattle.cspf_book_run.proofs.book_rows.BookRows.take_row.Goals as goal
 
 pub returns-in-Base-clause-answered : goal.returns-in-Base-clause-answered
@@ -41,16 +41,16 @@ pub returns-in-Offer-clause-answered : goal.returns-in-Offer-clause-answered
 returns-in-Offer-clause-answered g c = rw c.in-Offer.is (c.offer.ensures.answered (fields_of c.args.fields.now))
 
 pub returns-in-Offer-clause-lost : goal.returns-in-Offer-clause-lost
-returns-in-Offer-clause-lost g c = rw c.in-Offer.is (on_err_weaker c.offer.result (λ same s kept. inl (ap (λ (x : BookSinkState g.row.S.Denot). x.keeping) same)) c.offer.ensures.lost)
+returns-in-Offer-clause-lost g c = on_err_weaker c.offer.result (lost_same g.S.Keeps.spec (fields_of c.args.fields.now) (Ok c.args.row) c.args.self.now.rows c.offer.new.self.rows) c.offer.ensures.lost
 
 pub returns-in-Show-clause-answered : goal.returns-in-Show-clause-answered
 returns-in-Show-clause-answered g c = rw c.in-Show.is (c.show.ensures.answered (fields_of c.args.fields.now))
 
 pub returns-in-Show-clause-lost : goal.returns-in-Show-clause-lost
-returns-in-Show-clause-lost g c = rw c.in-Show.is (on_err_weaker c.show.result (λ same s kept. inl (ap (λ (x : BookSinkState g.row.S.Denot). x.keeping) same)) c.show.ensures.lost)
+returns-in-Show-clause-lost g c = on_err_weaker c.show.result (lost_same g.S.Keeps.spec (fields_of c.args.fields.now) (Ok c.args.row) c.args.self.now.rows c.show.new.self.rows) c.show.ensures.lost
 
 pub returns-in-Left-clause-answered : goal.returns-in-Left-clause-answered
 returns-in-Left-clause-answered g c = rw c.in-Left.is (c.left.ensures.answered (fields_of c.args.fields.now))
 
 pub returns-in-Left-clause-lost : goal.returns-in-Left-clause-lost
-returns-in-Left-clause-lost g c = rw c.in-Left.is (on_err_weaker c.left.result (λ same s kept. inl (ap (λ (x : BookSinkState g.row.S.Denot). x.keeping) same)) c.left.ensures.lost)
+returns-in-Left-clause-lost g c = on_err_weaker c.left.result (lost_same g.S.Keeps.spec (fields_of c.args.fields.now) (Ok c.args.row) c.args.self.now.rows c.left.new.self.rows) c.left.ensures.lost

@@ -4,16 +4,17 @@ use Rattle.cspf_book_run.specs.BookLines.{IsPlaceReply}
 use Rattle.cspf_book_run.specs.BookScript.{BookRunState, IsPlaceAnswered}
 use Rattle.cspf_book_run.specs.BookSinks.{BookSinkState, IsPlacingKept, IsPlaceUnkept}
 use Rattle.cspf_book_run.specs.Keeping.{IsKeptIfNew}
-use Rattle.cspf_book_run.proofs.PlaceSteps.{placed, same_keeping, line_is, kept_text, unplaced_by, on_err}
+use Rattle.cspf_book_run.proofs.PlaceSteps.{placed, same_book, same_keeping, same_sink, line_is, kept_text, unplaced_by, on_err}
 use Rattle.cspf_book_run.proofs.book_sink.BookSink.place.Goals as goal
 use Rattle.cspf_book_run.proofs.book_sink.BookSink.place.Goals.{in-Route-2, in-NoRoute-2, in-Some, in-None}
 
 pub returns-in_err-line-in-Ok-clause-lost : goal.returns-in_err-line-in-Ok-clause-lost
 returns-in_err-line-in-Ok-clause-lost g c =
     on_err c.from_residual.result _
+    (same_sink c.self.inside.book c.place.new.self c.self.inside.batches c.self.inside.skipped c.self.inside.keeper.keeping c.line_of.new.self.keeping c.args.self.now c.self.view_is
+    (same_book c.self.inside.book c.place.new.self c.args.request.now c.args.hold (answer_of c.in-Ok.outcome) c.in_err-line-in-Ok.ensures.unrouted c.in-Ok.ensures.placed)
     (c.in_err-line-in-Ok.ensures.same
-    ∙ same_keeping g.S.Keeps.spec c.self.inside.book c.place.new.self c.args.request.now c.args.hold _ c.place.new.taker (answer_of c.in-Ok.outcome) c.in_err-line-in-Ok.ensures.unrouted c.in-Ok.ensures.taken
-    ∙ ap (λ (x : BookSinkState g.row.S.Denot). x.keeping) c.self.view_is)
+    ∙ same_keeping g.S.Keeps.spec c.self.inside.book c.place.new.self c.args.request.now c.args.hold _ c.place.new.taker (answer_of c.in-Ok.outcome) c.in_err-line-in-Ok.ensures.unrouted c.in-Ok.ensures.taken))
 
 pub returns-in_ok-line-in-Ok-clause-placed : goal.returns-in_ok-line-in-Ok-clause-placed
 returns-in_ok-line-in-Ok-clause-placed g c =
