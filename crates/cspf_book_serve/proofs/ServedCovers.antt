@@ -1,23 +1,18 @@
 -- At each version that a server with a book publishes, a link is covered, or its `over` line was
 -- written.
-use Rattle.std.proofs.Common.{◌≡◌, ℕ, zero, suc, ◌+◌, ◌<◌, ◌≤◌, ◌⊎◌, Bool, true, false, cond, List, [], ◌∷◌, ◌++◌, map, filter, Some, Result, Ok, Err, IfOk, inl, inr, refl, sym, ap, subst, ◌∙◌, arith}
+use Rattle.std.proofs.Common.{◌≡◌, ℕ, zero, suc, ◌<◌, true, false, cond, List, [], ◌∷◌, ◌++◌, map, filter, Some, Result, Ok, Err, IfOk, inl, inr, refl, sym, ap, subst, ◌∙◌, arith}
 use Rattle.std.proofs.lemmas.Bool.{cases_Bool, ltb-false}
 use Rattle.std.proofs.lemmas.List.Elements.{Contains-append_left, Contains-append_right}
 use Rattle.std.specs.FinMap as finite
 use Rattle.std.specs.Ordering.{eq_by_cmp}
 use Rattle.std.specs.List.{Contains, flat_map}
 use Rattle.cspf_db.specs.Index.{links_of}
-use Rattle.cspf_model.specs.Database.{Key, key_cmp, key_of, IsLinkOf}
-use Rattle.cspf_model.specs.Numbered.{NumberedChanges}
+use Rattle.cspf_model.specs.Database.{Key, key_cmp, key_of}
 use Rattle.cspf_model.specs.declared.link.Link.{Link}
 use Rattle.cspf_stream.specs.RowAnswers.{AreAnswered}
-use Rattle.cspf_book.specs.BookState.{BookState}
-use Rattle.cspf_book.specs.Laws.{IsCovered}
 use Rattle.cspf_book.specs.OverLinks.{over_at, over_on, is_over, priorities}
-use Rattle.cspf_book.specs.Placements.{counted}
 use Rattle.cspf_book.specs.declared.over.Over.{Over}
 use Rattle.cspf_book.specs.declared.placement.Placement.{Placement}
-use Rattle.cspf_book_run.specs.BookLines.{over_line}
 use Rattle.cspf_book_run.specs.BookRows.{book_row_of}
 use Rattle.cspf_book_run.specs.BookScript.{BookRunState, changers}
 use Rattle.cspf_book_run.specs.BookScriptLaws.{IsSaidOver}
@@ -30,7 +25,7 @@ use Rattle.cspf_book_run.proofs.BookCovered.{KeepCovered, KeepsCover, stays, bot
 use Rattle.cspf_book_run.proofs.BookRowLemmas.{readable_row}
 use Rattle.cspf_book_serve.proofs.SameBooks.{HasSameBook, memory_has_same, unkept_has_same, stopped_has_same}
 use Rattle.cspf_book_serve.specs.ServedBookLaws.{BeginningsSayOver, ServedRowsCoverSince, PublishedBooksAreCovered}
-use Rattle.cspf_book_serve.specs.ServedBooks.{ServedBookState, served_book_answers, first_served, begin_lines, IsPublishedBook}
+use Rattle.cspf_book_serve.specs.ServedBooks.{ServedBookState, served_book_answers, first_served, begin_lines}
 use Rattle.cspf_book_serve.specs.ShownTexts.{shown_texts}
 
 abbrev Rows : Type 0

@@ -2,7 +2,7 @@
 use Rattle.std.proofs.Common.{◌≡◌, ℕ, suc, ◌+◌, ◌-◌, ◌≤◌, ◌⊎◌, true, false, List, [], ◌∷◌, ◌++◌, length, length-append, take, Result, Ok, Err, inl, inr, refl, sym, ap, subst, ◌∙◌, append_assoc, append-nil, eq-eqb, arith}
 use Rattle.std.proofs.lemmas.Bool.{false≢true}
 use Rattle.cspf_model.specs.Numbered.{NumberedChanges}
-use Rattle.cspf_stream.specs.RowAnswers.{AnswersOf, AreAnswered}
+use Rattle.cspf_stream.specs.RowAnswers.{AreAnswered}
 use Rattle.cspf_book.specs.BookState.{BookState}
 use Rattle.cspf_book_run.specs.BookRows.{book_row_of}
 use Rattle.cspf_book_run.specs.BookScript.{BookRunState, book_answers, going_on, IsBookRowAnswered}
@@ -18,7 +18,7 @@ use Rattle.cspf_book_run.specs.declared.write_fault.WriteFault.{WriteFault}
 use Rattle.cspf_book_run.specs.declared.write_fault.WriteFault.TheVariants as fault
 use Rattle.cspf_book_run.proofs.BookSteps.{another_version}
 use Rattle.cspf_book_serve.proofs.SameBooks.{HasSameBook, memory_has_same, same_from, unkept_has_same, stopped_has_same}
-use Rattle.cspf_book_serve.specs.ServedBookLaws.{IsEndBy, IsKeptEnd, ServedKeptIsTheBook}
+use Rattle.cspf_book_serve.specs.ServedBookLaws.{IsEndBy, ServedKeptIsTheBook}
 use Rattle.cspf_book_serve.specs.ServedBooks.{ServedBookState, served_book_answers, first_served}
 use Rattle.cspf_book_serve.specs.ShownTexts.{ShownState, shown_texts, IsUnshown}
 
