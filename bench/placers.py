@@ -1,8 +1,10 @@
 """Connections that place through `routed-tools listen`, for bench/book."""
+import contextlib
 import itertools
 import os
 import random
 import selectors
+import signal
 import subprocess
 import sys
 import tempfile
@@ -16,7 +18,25 @@ from streams import Connection, stop
 HERE = os.path.dirname(os.path.abspath(__file__))
 PLACERS, SMALL = 16, (8, 32)  # connections, and the routers and links of their network
 REQUESTS = 2000  # that a connection places before it begins again
-FILES = "begin", "keep", "journal", "ask", "updates", "placements"
+FILES = "keep", "journal", "ask", "updates", "placements"
+
+
+@contextlib.contextmanager
+def listened(program, begin, clients):
+    """A run of `routed-tools listen` for so many clients, whose book begins with the rows of a file: the paths of its places."""
+    with tempfile.TemporaryDirectory() as room:
+        paths = {name: os.path.join(room, name) for name in FILES}
+        words = [sys.executable, os.path.join(HERE, "../tools/routed-tools"), "listen", "--program", program, "--begin", begin,
+                 "--clients", str(clients), "--placings", "1000000", *(word for name in FILES for word in (f"--{name}", paths[name]))]
+        with subprocess.Popen(words, stdout=subprocess.PIPE) as child:
+            if child.stdout.readline() != b"ready\n":
+                stop(f"routed-tools listen: ended with status {child.wait()}")
+            try:
+                yield paths
+            finally:
+                child.terminate()
+        if child.returncode != 128 + signal.SIGTERM:
+            stop(f"routed-tools listen: ended with status {child.returncode}")
 
 
 def front(program, seed, seconds):
@@ -24,20 +44,14 @@ def front(program, seed, seconds):
     draw = random.Random(seed)
     network = drawn.loading(draw, drawn.network(draw, *SMALL))
     rows = placing(draw, SMALL[0], PLACERS * REQUESTS)
-    with tempfile.TemporaryDirectory() as room:
-        files = {name: os.path.join(room, name) for name in FILES}
-        with open(files["begin"], "w", encoding="ascii") as file:
-            file.writelines(network)
-        words = [sys.executable, os.path.join(HERE, "../tools/routed-tools"), "listen", "--program", program, "--clients", "1",
-                 "--placings", "1000000", *(word for name, path in files.items() for word in (f"--{name}", path))]
-        with subprocess.Popen(words, stdout=subprocess.PIPE) as child:
-            if child.stdout.readline() != b"ready\n":
-                stop("routed-tools listen: it didn't begin")
-            connections = [Connection(files["placements"]) for _ in range(PLACERS)]
+    with tempfile.NamedTemporaryFile("w", encoding="ascii") as begin:
+        begin.writelines(network)
+        begin.flush()
+        with listened(program, begin.name, 1) as paths:
+            connections = [Connection(paths["placements"]) for _ in range(PLACERS)]
             times = placed(connections, [turns(rows[at::PLACERS]) for at in range(PLACERS)], seconds)
             for connection in connections:
                 connection.close()
-            child.terminate()
     return times
 
 
