@@ -10,6 +10,7 @@ import sys
 import time
 
 from checks import TOP
+from program.bench_book import benched
 from program.serving import PATIENCE, batches_of
 from tools.fronts import LISTEN, MARK, Connection, Front, admitted
 from tools.readers import dressed
@@ -199,7 +200,7 @@ def server_ends(program, checks, versions, room):
 
 
 def causes(program, checks, versions, room):
-    """What can't be had is named: a place, a program."""
+    """What can't be had is named: a place, a program. Commands of bench/ name it, too, and bench/book has lines where it can be had."""
     absent, path = os.path.join(room, "absent"), os.path.join(room, "updates")
     far = os.path.join(room, "9" * 120)
     with socket.create_server(("127.0.0.1", 0)) as taken:
@@ -235,8 +236,9 @@ def causes(program, checks, versions, room):
                          env=around)
     wanted = f"listen: {copy}/crates/routed/out/routed: No such file or directory (README.md says how it is built)\n"
     checks.same("a program that isn't built", (ran.returncode, ran.stdout, ran.stderr), (3, "", wanted))
-    for words in (["run"], ["serve", "--seconds", "0.1"], ["serve", "--listen"]):
+    for words in (["run"], ["serve", "--seconds", "0.1"], ["serve", "--listen"], ["book", "--only", "flooded"]):
         given = ["--routers", "4", "--links", "8", "--program", absent, *words[1:]]
         ran = subprocess.run([sys.executable, os.path.join(TOP, "bench", words[0]), *given], capture_output=True, text=True)
         found = (ran.returncode, ran.stderr)
         checks.same(f"bench/{' '.join(words)} without a program", found, (1, f"bench/{words[0]}: {absent}: No such file or directory\n"))
+    benched(program, checks)
