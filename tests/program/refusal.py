@@ -40,26 +40,36 @@ class Refuser:
         subprocess.run([COMPILER, "-shared", "-fPIC", "-O1", "-o", self.library, source, "-ldl"], check=True)
         self.numbers = itertools.count()
 
+    def refusing(self, call, at, *flags, **more):
+        """The environment of a run whose call `at` of this kind is refused, and the file that gets the counts of its calls."""
+        counts = os.path.join(self.room.name, f"counts{next(self.numbers)}")
+        more = {**dict.fromkeys(flags, 1), **more}
+        return {**os.environ, "LD_PRELOAD": self.library, "REFUSE_CALL": call, "REFUSE_AT": str(at), "REFUSE_COUNTS": counts,
+                **{f"REFUSE_{flag.upper()}": str(value) for flag, value in more.items()}}, counts
+
     def run(self, words, call, at, *flags, stdin=None, **how):
         """One run whose call `at` of this kind is refused: "on" refuses each later one too, "short" moves one byte, "break" is EINTR."""
-        counts = os.path.join(self.room.name, f"counts{next(self.numbers)}")
-        refusal = {"LD_PRELOAD": self.library, "REFUSE_CALL": call, "REFUSE_AT": str(at), "REFUSE_COUNTS": counts,
-                   **{f"REFUSE_{flag.upper()}": "1" for flag in flags}}
+        env, counts = self.refusing(call, at, *flags)
         source = open(stdin, "rb") if stdin else subprocess.DEVNULL
         try:
-            ran = subprocess.run(words, stdin=source, capture_output=True, timeout=SECONDS, env={**os.environ, **refusal}, **how)
+            ran = subprocess.run(words, stdin=source, capture_output=True, timeout=SECONDS, env=env, **how)
             status, out, err = ran.returncode, ran.stdout, ran.stderr
         except subprocess.TimeoutExpired as late:
             status, out, err = None, late.stdout or b"", late.stderr or b""
         finally:
             if stdin:
                 source.close()
-        calls, refused = None, None
-        if os.path.exists(counts):
-            with open(counts, encoding="ascii") as told:
-                calls, refused = map(int, told.read().split())
-            os.remove(counts)
-        return Ran(status, out, err, calls, refused)
+        return Ran(status, out, err, *counted(counts))
+
+
+def counted(counts):
+    """How many calls there were, and how many were refused, by the file of a run; None where it has no file."""
+    if not os.path.exists(counts):
+        return None, None
+    with open(counts, encoding="ascii") as told:
+        calls, refused = map(int, told.read().split())
+    os.remove(counts)
+    return calls, refused
 
 
 def each(judge):

@@ -3,6 +3,7 @@
    REFUSE_CALL    malloc, read, write, open or thread: the kind of call that is counted
    REFUSE_AT      the call of that kind that is refused, from 1 on; 0 or nothing: none
    REFUSE_ON      if set, each later call is refused as well
+   REFUSE_EVERY   how many calls it is from a refused one to the next refused one
    REFUSE_SHORT   how many bytes a read or write moves at most in place of failing
    REFUSE_BREAK   if set, a read or write fails as one that a signal broke off
    REFUSE_KILL    if set, the program is killed at that read or write, with REFUSE_SHORT after it moved so many bytes
@@ -32,7 +33,7 @@ static const char *const names[] = {"", "malloc", "read", "write", "open", "thre
 static const int errors[] = {0, ENOMEM, EIO, ENOSPC, EMFILE, EAGAIN};
 
 static enum kind kind;
-static long at;
+static long at, every;
 static size_t most;
 static int goes_on, kills, pause_ms, error;
 static const char *file_name;
@@ -57,6 +58,7 @@ __attribute__((constructor)) static void start(void)
     const char *call = getenv("REFUSE_CALL"), *number = getenv("REFUSE_AT");
     at = number ? atol(number) : 0;
     goes_on = getenv("REFUSE_ON") != NULL;
+    every = getenv("REFUSE_EVERY") ? atol(getenv("REFUSE_EVERY")) : 0;
     most = getenv("REFUSE_SHORT") ? atol(getenv("REFUSE_SHORT")) : 0;
     kills = getenv("REFUSE_KILL") != NULL;
     pause_ms = getenv("REFUSE_PAUSE") ? atoi(getenv("REFUSE_PAUSE")) : 0;
@@ -86,7 +88,7 @@ static int is_refused(enum kind k, void *from)
     if (k != kind || (uintptr_t)from < code_start || (uintptr_t)from >= code_end)
         return 0;
     long call = ++calls;
-    if (!at || (goes_on ? call < at : call != at))
+    if (!at || (every ? call < at || (call - at) % every : goes_on ? call < at : call != at))
         return 0;
     refused++;
     errno = error;

@@ -267,10 +267,12 @@ class Fault(Refused):
 Step = collections.namedtuple("Step", "book changes lines kept is_refused")
 
 
-def walked(rows, room=math.inf, book=None, publish=lambda before, after, changes: None):
+def walked(rows, room=math.inf, book=None, publish=lambda before, after, changes: None, lacking=None):
     """A step for each row, however many there are, of a new book or of one that goes on. `room` is how many bytes the file of `--keep`
-    takes. Where a row is kept, `publish` gets the book before it and after it, and the changes of its batch, and may raise Fault, too."""
-    book, changes, is_stopped = book or Book(), [], False
+    takes. Where a row is kept, `publish` gets the book before it and after it, and the changes of its batch, and may raise Fault, too.
+    `lacking` has the numbers of rows that are refused by `memory`, each with the moment: "read", before its fields are read; "taken", before
+    anything is written; or "told", when a write has failed, and the line that says so is made."""
+    book, changes, is_stopped, lacking = book or Book(), [], False, lacking or {}
     for at, fields in enumerate(formats.records(rows), 1):
         subject, before, lines, text, kept, is_refused = f"row {at}", copy.copy(book), [], ",".join(fields) + "\n", "", False
         open_ones = []
@@ -280,6 +282,10 @@ def walked(rows, room=math.inf, book=None, publish=lambda before, after, changes
                 subject, open_ones, changes = f"batch {content['number']}", changes, []
             elif kind not in CHANGES:
                 subject = f"{kind} {key_text(content) if kind == 'left' else content['id']}"
+            if kind not in STOPPED or (kind, lacking.get(at)) == ("held", "read"):
+                subject = f"row {at}" if at in lacking else subject
+            if lacking.get(at) in ("read", "taken"):
+                raise Refused("memory")
             if is_stopped and kind in STOPPED:
                 raise Refused("stopped")
             if kind in CHANGES:
@@ -301,6 +307,7 @@ def walked(rows, room=math.inf, book=None, publish=lambda before, after, changes
         except Refused as words:
             if isinstance(words, Fault):
                 book, is_stopped = before, True
+            words = "memory" if at in lacking else words
             lines, is_refused = [f"{subject} refused: {words}"], True
         yield Step(book, changes, lines, kept, is_refused)
 

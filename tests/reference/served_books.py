@@ -28,10 +28,11 @@ def changes_of(before, after, changes):
 class Server:
     """A run that begins with the rows of a book, or with a book, and how many bytes its two files take. `networks` are the effective
     databases from version 0 on, those of a beginning too; `first` is the first version, and `begun` are the lines before those of any
-    row."""
+    row. `lacking` has the rows that are refused by `memory`, as `books.walked` has them."""
 
-    def __init__(self, begin="", room=math.inf, journal_room=math.inf):
+    def __init__(self, begin="", room=math.inf, journal_room=math.inf, lacking=None):
         self.room, self.journal_room, self.networks, self.status = room, journal_room, [Network()], 0
+        self.lacking = lacking
         self.book, line, _ = (begin, "", "") if isinstance(begin, books.Book) else compacts.whole(begin)
         if self.book is None:
             self.status, self.begun, self.snapshot = 2, [line], ""
@@ -63,7 +64,7 @@ class Server:
 
     def walked(self, rows, found):
         """The steps of the book, each with what is written for its row."""
-        for step in books.walked(rows, self.room, self.book, self.publish):
+        for step in books.walked(rows, self.room, self.book, self.publish, self.lacking):
             found.append(Served(step.lines, step.kept, self.written))
             self.written = ""
             yield step
@@ -72,8 +73,8 @@ class Server:
 class Run:
     """A whole run over some rows: its status, its steps and, as texts, all its lines, what it keeps, and its journal."""
 
-    def __init__(self, rows, begin="", room=math.inf, journal_room=math.inf):
-        self.server = Server(begin, room, journal_room)
+    def __init__(self, rows, begin="", room=math.inf, journal_room=math.inf, lacking=None):
+        self.server = Server(begin, room, journal_room, lacking)
         self.status, self.steps = self.server.run(rows)
         self.lines = "".join(f"{line}\n" for step in self.steps for line in step.lines)
         self.kept, self.journal = ("".join(texts) for texts in list(zip(*self.steps))[1:])
