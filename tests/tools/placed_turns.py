@@ -172,6 +172,58 @@ def refused(_, checks, room):
         checks.same("a row of those who place, from the updates", it.hear(0), (b"refused\n", True))
 
 
+def lacking(_, checks, room):
+    """If memory is refused to a request of the front's own, the request is sent again, and the turn goes on. Lines of other rows that are
+    refused so are those of a connection."""
+    with shares(room, 2) as it:
+        it.say(1, SHOW % 1 + ROW % 5)
+        it.say(2, SHOW % 2)
+        checks.same("a turn", it.lack([0], b"row 1 refused: memory\nplace 5 refused: memory\n"), SHOW % 1 + ROW % 5)
+        checks.same("its lines, without that of the front's own row", it.hear(1)[0], b"row 1 refused: memory\nplace 5 refused: memory\n")
+        checks.same("no turn begins meanwhile", (it.has(), it.hear(2)[0]), (None, b""))
+        it.wait()
+        checks.same("the front's own row again", it.lack([0]), b"")
+        it.wait()
+        it.version = 3
+        checks.same("and again, by which the turn ends", (it.answer(), it.account.version), (b"", 3))
+        checks.same("then others have theirs", (it.answer(b"show 2 refused: absent\n"), it.hear(2)[0]), (SHOW % 2, b"show 2 refused: absent\n"))
+        checks.same("the log", it.log().count("a request of our own, which is sent again\n"), 2)
+        it.say(1, SHOW % 1 + b"book\n" + SHOW % 3)
+        it.say(2, SHOW % 2)
+        checks.same("a book is asked for", it.lack([0], b"show 1\n"), SHOW % 1)
+        it.version = 4
+        checks.same("the request of that is refused", (it.hear(1)[0], it.has(), it.texts.asked), (b"show 1\n", None, []))
+        it.wait()
+        checks.same("it comes again", (it.answer(), [asked[:2] for asked in it.texts.asked]), (b"", [("book", 4)]))
+        checks.same("and others behind it", (it.answer(b"x\n"), it.hear(2)[0]), (SHOW % 2, b"x\n"))
+        it.texts.asked[0][2](b"version 4\n", b"book end\n")
+        it.settle()
+        checks.same("rows behind the book", (it.hear(1)[0], it.answer()), (b"version 4\nbook end\n", SHOW % 3))
+        it.say(0, b"node,1.1.1.1,0\n")
+        it.clients[0].close()
+        it.settle()
+        checks.same("changes are left open", it.answer(), b"node,1.1.1.1,0\n")
+        checks.same("both own rows behind them are refused", it.lack([0, 1]), b"")
+        it.wait()
+        checks.same("they come again", it.answer(), b"")
+        checks.same("the changes are dropped", it.lack([0], b"batch 0 refused: memory\n"), b"end,0,0\n")
+        it.wait()
+        checks.same("of which nobody hears", (it.answer(), it.has(), it.hear(1)[0], it.hear(2)[0]), (b"", None, b"", b""))
+        late = it.connect(it.updates.accept)
+        late.sendall(b"run\n")
+        it.answer()
+        checks.true("the place of updates is free again", late.recv(100).startswith(b"run "))
+        it.say(1, SHOW % 1)
+        it.has()
+        it.tell(b"row %d refused: memory\n" % (it.count + 1))
+        checks.same("a line that comes before the rest of the turn", it.hear(1)[0], b"row %d refused: memory\n" % (it.count + 1))
+        it.tell(b"row %d refused: memory\n" % (it.count + 2))
+        os.close(it.to)
+        it.wait()
+        checks.same("a server that ends before a row is sent again", (it.hear(1), it.hear(2)), ((b"", True), (b"", True)))
+        it.to = os.dup(it.rows)
+
+
 def many(_, checks, room):
     """64 connections; one more is busy. One that has gone leaves its place."""
     with shares(room, 64) as it:
@@ -265,4 +317,4 @@ def ended(_, checks, room):
         it.to = os.dup(it.rows)
 
 
-PARTS = (failed, ended, in_turns, bytes_of_turns, news, unread, books, refused, many, rate)
+PARTS = (failed, ended, in_turns, bytes_of_turns, news, unread, books, refused, lacking, many, rate)

@@ -7,7 +7,7 @@ import time
 
 from routed.front.booked import BookAccount
 from routed.front.placing import Placing
-from routed.front.sharing import Sharing
+from routed.front.sharing import AGAIN, Sharing
 from routed.front.updates import Updates
 from routed.net.log import Log
 from routed.net.loop import Loop
@@ -44,6 +44,7 @@ class Shares:
         os.set_blocking(self.log_file, False)
         self.account = BookAccount(Log("shares", "info", file), os.path.join(room, "journal"), None, None, os.path.join(room, "keep"))
         self.loop, self.texts, self.unanswered, self.version = Loop(self.account.failed), Texts(), b"", 0
+        self.count = 0  # rows that the server has answered
         self.sharing = Sharing(self.loop, Stream(self.loop, lines_out, rows_in), self.account)
         share = self.sharing.share()
         self.placing = Placing(self.loop, self.sharing, self.account, self.texts, share, rate)
@@ -83,10 +84,24 @@ class Shares:
 
     def answer(self, lines=b""):
         """The server says these lines, answers the front's own rows, and the turn ends. Its rows."""
-        rows, numbers = self.has(), OWN.findall(self.unanswered)
+        return self.lack((), lines)
+
+    def lack(self, those, lines=b""):
+        """The same, and memory is refused to those of the front's own rows, from 0 on. The rows of the turn."""
+        rows, numbers, told = self.has(), iter(range(len(OWN.findall(self.unanswered)))), [lines]
+        for row in self.unanswered.splitlines(keepends=True):
+            self.count += 1
+            if own := OWN.fullmatch(row):
+                told.append(b"row %d refused: memory\n" % self.count if next(numbers) in those else
+                            b"ask %s v%d unknown-from\n" % (own[1], self.version))
         self.unanswered = b""
-        self.tell(lines + b"".join(b"ask %s v%d unknown-from\n" % (number, self.version) for number in numbers))
+        self.tell(b"".join(told))
         return rows
+
+    def wait(self):
+        """Lets the time pass until rows are sent again that memory was refused to."""
+        time.sleep(1.1 * AGAIN)
+        self.settle()
 
     def hear(self, at):
         """What a connection reads now, and whether it has ended."""

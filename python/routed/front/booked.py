@@ -186,6 +186,8 @@ class BookAccount(Account):
         for line in said.splitlines():
             words = line.split(b" ")
             priorities = self.over.get(words[1], set())
+            if words[0] == b"row":  # memory was refused at it
+                continue
             if words[2] == NO_LINK:
                 priorities.clear()
             else:

@@ -12,9 +12,10 @@ from ..net.stream import Stream
 from .booked import BookAccount
 from .books import Books
 from .placing import Placing
-from .sharing import Sharing
+from .sharing import AGAIN, MEMORY, Sharing
 
 EXPECTED = b"batch 0 refused: expected "  # the number of the next batch of the base
+LACKING = b"batch 0" + MEMORY
 
 
 class Keeping:
@@ -39,11 +40,22 @@ class Keeping:
 
     def begin(self, begun: Callable[[int], object]) -> None:
         """Calls this with the first version once the server has read what it begins with."""
-        def told(said: bytes, version: int) -> None:
-            self.take(said, version)
-            begun(version)
+        over = b""
 
-        self.sharing.ask(b"end,0,0\n", told)
+        def told(said: bytes, version: int) -> None:
+            nonlocal over
+            over += said
+            if over.endswith(LACKING):
+                over = over.removesuffix(LACKING)
+                self.sharing.loop.after(AGAIN, ask)
+            else:
+                self.take(over, version)
+                begun(version)
+
+        def ask() -> None:
+            self.sharing.ask(b"end,0,0\n", told)
+
+        ask()
 
     def take(self, said: bytes, version: int) -> None:
         """Takes the lines of the beginning: what is counted too much, and the number of the base's next batch."""

@@ -14,7 +14,7 @@ from ..net.stream import Stream
 from .booked import BookAccount
 from .books import Books
 from .channels import ENDING, PAUSED
-from .sharing import Share, Sharing
+from .sharing import MEMORY, Share, Sharing
 from .writing import Writing
 
 MOST = 64  # connections
@@ -74,6 +74,8 @@ class Placing:
 
     def looked(self, said: bytes, _: int) -> None:
         self.account.left(said)
+        if MEMORY in said:  # some weren't answered
+            self.looked_at = 0
         self.loop.after(EVERY, self.look)
 
 

@@ -37,7 +37,7 @@ class Writing(Channel):
         self.to_server += row
         self.awaited = reply, answered
         if self.share:
-            self.share.is_awaited = True
+            self.share.is_awaited, self.share.own = True, row
 
     def pass_lines(self, said: bytes) -> None:
         version = None
@@ -47,7 +47,7 @@ class Writing(Channel):
         if self.awaited and version is not None:
             (_, answered), self.awaited = self.awaited, None
             if self.share:
-                self.share.is_awaited = False
+                self.share.is_awaited, self.share.own = False, b""
             answered(version)
 
     def pass_own(self, said: bytes) -> None:
