@@ -29,7 +29,7 @@ class Server:
         self.book, self.journal, self.changes = books.Book(), journal, []
         self.sent, self.lines_, self.rows, self.is_held, self.is_busy = b"", [], [], False, False
         self.fields = {}  # of rows that place, by their ids
-        self.refusing = {}  # by kinds of rows: the words by which they are refused
+        self.refusing = {}  # by kinds of rows: the words by which they are refused; "unread" is memory before the fields are read
         self.over = []  # versions at which a link has less than is counted, with no line that says so
         self.front = None
 
@@ -79,6 +79,8 @@ class Server:
             self.fields[int(fields[0])] = ",".join(fields[1:9])
         if row == "book":
             self.lines_ += ["busy"] if self.is_busy else [f"version {self.book.version}", *self.text(), "book end"]
+        elif self.refusing.get(kind) == "unread":
+            self.lines_.append(f"row {len(self.rows)} refused: memory")
         elif kind in self.refusing:
             self.lines_.append(f"{kind} {row.split(',')[1]} refused: {self.refusing[kind]}")
         else:

@@ -1,7 +1,7 @@
 """When LSPs that a book counts are moved and made, and what PCCs and the server refuse."""
 import struct
 
-from pcep.book_front import NORTH, SOUTH, begun, kinds, said, with_lsps
+from pcep.book_front import NORTH, SOUTH, amounts, begun, kinds, said, with_lsps
 from pcep.played import lspa, metric, rows
 
 from routed.pcep import wire
@@ -146,6 +146,94 @@ def refused(checks, room):
         checks.same(f"{word}: is asked again at the next base", len(front.server.routes()), 2)
 
 
+def lacking(checks, room):
+    """Rows for which the server has no memory are tried again each second, and nothing is lost meanwhile."""
+    for word in ("memory", "unread"):
+        front = begun(room)
+        front.server.refusing = dict.fromkeys(("held", "place", "offer"), word)
+        pcc = front.join()
+        pcc.have(1, "a", "134", 1e6)
+        pcc.have(2, "b", None, 1e6)
+        pcc.have(3, "c", None, 2e6, flags=8)
+        pcc.end_sync()
+        checks.same(f"{word}: none is counted, which is said",
+                    (front.server.routes(), len(said(front, " is uncounted: the server has no memory for its row"))), ({}, 3))
+        since, lines = len(front.server.rows), len(said(front, "has no memory for rows"))
+        front.pass_time(5)
+        checks.true(f"{word}: each is tried again once a second", 12 <= len(front.server.rows) - since <= 18, front.server.rows[since:])
+        checks.same(f"{word}: one line a second says so", (lines, len(said(front, "has no memory for rows"))), (1, 6))
+        checks.same(f"{word}: and of each LSP one line in all", len(said(front, " is uncounted: ")), 3)
+        front.server.refusing = {}
+        front.pass_time(2)
+        checks.same(f"{word}: once memory is there all are counted", sorted(amounts(front)), [1000000, 1000000, 2000000])
+        checks.same(f"{word}: none is said to have no route", said(front, "has no route"), [])
+        since = len(front.server.rows)
+        front.pass_time(5)
+        checks.true(f"{word}: and none is tried any more", len(front.server.rows) - since <= 3, front.server.rows[since:])
+        # an LSP that is counted
+        before = front.server.routes()
+        front.server.refusing = dict.fromkeys(("place", "offer"), word)
+        front.server.base("drop,10.0.0.2,10.2.4.2")
+        front.pass_time(3)
+        checks.same(f"{word}: lost ones stay counted", (front.server.routes(), said(front, "has no route")), (before, []))
+        front.server.refusing = {}
+        front.pass_time(2)
+        checks.same(f"{word}: and go elsewhere once memory is there", {*map(tuple, front.server.routes().values())}, {tuple(SOUTH)})
+        front.server.refusing = {"release": word}
+        pcc.remove(1)
+        front.pass_time(3)
+        checks.same(f"{word}: a release", (len(front.server.routes()), len(said(front, "an LSP that isn't there")) > 0), (3, True))
+        front.server.refusing = {}
+        front.pass_time(2)
+        checks.same(f"{word}: and it is released", len(front.server.routes()), 2)
+        front.server.refusing = {"release": word}
+        pcc.have(3, "c", "134", 3e6, flags=8)
+        front.pass_time(3)
+        checks.same(f"{word}: a placement that isn't released stays, and the book isn't read again", (amounts(front), kinds(front).count("book")),
+                    ([1000000, 2000000], 1))
+        front.server.refusing = {}
+        front.pass_time(12)
+        checks.same(f"{word}: until it is", amounts(front), [1000000, 3000000])
+        front.server.refusing = {"held": word}
+        pcc.have(3, "c", "134", 4e6, flags=8)
+        front.pass_time(3)
+        checks.same(f"{word}: one that is released and not restored is uncounted", (amounts(front), pcc.session.lsps.all[3].is_counted),
+                    ([1000000], False))
+        front.server.refusing = {}
+        front.pass_time(3)
+        checks.same(f"{word}: until it is restored", (amounts(front), pcc.session.lsps.all[3].is_counted), ([1000000, 4000000], True))
+        checks.same(f"{word}: no circuit carries more than it has, ever", front.server.over, [])
+    front, pcc = with_lsps(room, ("a", "124", 1e8), ("b", "134", 1e6), gain=100)
+    front.server.refusing = {"left": "unread"}
+    front.server.base(f"put,10.0.0.2,10.2.4.2,10.0.0.4,10.2.4.4,50,0x1,{','.join(['5'] * 8)}")
+    front.pass_time(3)
+    checks.same("a link that can't be looked at stays crowded", ([*front.displaced.crowded], len(pcc.told_), said(front, "what is counted on it")),
+                ([("10.0.0.2", "10.2.4.2")], 0, []))
+    front.server.refusing = {}
+    front.pass_time(2)
+    checks.same("and is looked at once memory is there", (pcc.told_, front.displaced.crowded), ([(1, "34")], {}))
+    front, pcc = with_lsps(room, ("a", "124", 6e7))
+    pcc.session.stop("it ends")
+    front.server.refusing = {"place": "memory"}
+    front.server.base("drop,10.0.0.2,10.2.4.2")
+    front.pass_time(3)
+    checks.same("a lost one without a session", [*front.server.routes().values()], [NORTH])
+    front.server.refusing = {}
+    front.pass_time(2)
+    checks.same("is placed elsewhere once memory is there", [*front.server.routes().values()], [SOUTH])
+    front = begun(room)
+    front.made = {"red": request_of(["10.0.0.1", "10.0.0.4", "3", "100000000", "0x0", "0x0", "0x0"])}
+    for kind in ("offer", "place"):
+        front.server.refusing = {kind: "memory"}
+        pcc = front.join()
+        pcc.end_sync()
+        front.pass_time(3)
+        checks.same(f"an LSP isn't made without its {kind} row", (front.server.routes(), pcc.told_), ({}, []))
+    front.server.refusing = {}
+    front.pass_time(2)
+    checks.same("it is made once memory is there", ([*front.server.routes().values()], pcc.told_), ([NORTH], [("make", "24")]))
+
+
 def made(checks, room):
     """LSPs that PCInitiate makes are placed first, and released if they aren't made."""
     front = begun(room)
@@ -204,4 +292,4 @@ def constrained(checks, room):
     checks.same("no circuit carries more than it has, ever", front.server.over, [])
 
 
-MOVES = circuits, order, refused, made, constrained
+MOVES = circuits, order, refused, lacking, made, constrained

@@ -15,7 +15,7 @@ from ..model import rows
 from ..model.rows import Reply
 from ..net.loop import Owner
 from .lsp import Lsp
-from .placement import Placement, hexadecimal
+from .placement import Placement, hexadecimal, is_for_memory
 from .placements import Placements
 from .placing import BY_SEGMENTS, Placing, constraints_of
 from .protocol import SessionFront
@@ -29,6 +29,7 @@ if typing.TYPE_CHECKING:
     from .session import Session
 
 AWAY = "the place of --placements isn't there"
+LACKING = "the server has no memory for its row, which is sent again"
 
 
 class Counting:
@@ -223,7 +224,7 @@ class Counting:
     def taken(self, lsp: Lsp, line: str | None) -> None:
         """The line of a row by which the book was to have an LSP."""
         answer = Reply.parse(line or "")
-        if line is None or self.owners.get(lsp.id or 0) is not lsp:
+        if line is None or self.owners.get(lsp.id or 0) is not lsp or self.is_tried_again(lsp, line):
             return
         if answer and answer.why or " refused: " in line:
             self.miss(lsp, answer.why if answer and answer.why else line)
@@ -233,6 +234,12 @@ class Counting:
         self.found(lsp)
         if lsp.is_ours():
             self.ask(lsp)
+
+    def is_tried_again(self, lsp: Lsp, line: str) -> bool:
+        """Whether the server had no memory for the row of an LSP. The LSP stays where it is, and is looked at again a second later."""
+        if is_for_memory(line) and not self.is_booked(lsp):
+            self.miss(lsp, LACKING)
+        return is_for_memory(line)
 
     def request_of(self, lsp: Lsp) -> Request | None:
         """What is counted of an LSP: what is asked for it, or, of one that isn't ours, what can be read of its constraints."""

@@ -10,6 +10,7 @@ from typing import TYPE_CHECKING
 from ..model.rows import Key
 from ..net.endpoints import Endpoint
 from .lsp import Lsp
+from .placement import is_for_memory
 from .placements import Placements
 
 if TYPE_CHECKING:
@@ -28,7 +29,7 @@ class Displaced:
 
     def __init__(self, front: Front, place: Endpoint) -> None:
         self.front, self.book = front, Placements(front.loop, place, front.network, self)
-        self.room_at, self.has_news, self.is_late = -float(CHEAPER), False, False
+        self.room_at, self.has_news, self.is_late, self.is_lacking = -float(CHEAPER), False, False, False
         self.said: set[Key] = set()  # links of which a line said that too much is counted there
         self.forget()
 
@@ -87,6 +88,17 @@ class Displaced:
     def more_may_move(self) -> None:
         self.crowded = dict.fromkeys(self.crowded, -float(AGAIN))
         self.again()
+
+    def lacks_memory(self, line: str) -> None:
+        """What was refused is tried again a second later: all is looked at as after a base, which one line says for all."""
+        if not self.is_lacking:
+            self.is_lacking = True
+            self.front.say("warning", f"the book: {line}: the server has no memory for rows, which are tried again")
+            self.front.loop.after(AGAIN, self.try_again, self.book)
+
+    def try_again(self) -> None:
+        self.is_lacking = False
+        self.lost_placements([])
 
     def settled(self, number: int, has_room: bool) -> None:
         """There may be room then where there was none."""
@@ -182,6 +194,10 @@ class Displaced:
     def left(self, key: Key, ids: list[int], line: str | None) -> None:
         """Places the least important of these placements again that counts where the link has too little."""
         if self.link != key:
+            return
+        if is_for_memory(line):  # it stays crowded, and is looked at again
+            self.link = None
+            self.look()
             return
         name = ",".join(key)
         priority = too_little(line or "")

@@ -31,6 +31,11 @@ class Placement:
             at = there
 
 
+def is_for_memory(line: str | None) -> bool:
+    """Whether this line refuses a row since the server had no memory for it. The same row may come again."""
+    return line is not None and line.endswith(" refused: memory")
+
+
 def hexadecimal(links: Iterable[Link]) -> str:
     """A route as a `held` row has it."""
     return "".join(bytes(int(part) for address in (link.local, link.neighbor) for part in address.split(".")).hex() for link in links)
@@ -59,6 +64,9 @@ class Hearer(Protocol):
 
     def more_may_move(self) -> None:
         """There are more LSPs that can be moved."""
+
+    def lacks_memory(self, line: str) -> None:
+        """The server had no memory for a row, as this line of it says."""
 
     def settled(self, number: int, has_room: bool) -> None:
         """A placement has a route, or is released. There may be more room somewhere then."""

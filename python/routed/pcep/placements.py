@@ -13,7 +13,7 @@ from ..net.endpoints import CONNECT, Endpoint
 from ..net.loop import READ, WRITE, Loop, Owner
 from ..net.stream import Stream
 from .network import Network
-from .placement import Hearer, Placement, hexadecimal
+from .placement import Hearer, Placement, hexadecimal, is_for_memory
 from .routes import links_of
 
 AGAIN = 1  # seconds from one try to connect to the next
@@ -146,6 +146,8 @@ class Placements:
         elif self.rows:
             row, call = self.rows.popleft()
             self.take(row, line)
+            if is_for_memory(line):
+                self.hearer.lacks_memory(line)
             call(line)
         else:
             self.end(f"it says {line[:100]!r}")
@@ -249,20 +251,25 @@ class Placements:
 
     def give(self, rows: str, call: Call, owner: Owner | None) -> None:
         """Sends the row of an id of which none is under way, or such rows, one in each line, between which no other row comes: the line of
-        the last one is given. An exception in `call` ends the owner."""
+        the last one is given, or the line of a former one for which the server had no memory. An exception in `call` ends the owner."""
         *first, last = rows.split("\n")
         number = int(last.split(",", 2)[1])
         self.busy.add(number)
+        lacking: list[str] = []
+
+        def passed(line: str | None) -> None:
+            if line is not None and is_for_memory(line):
+                lacking.append(line)
 
         def answered(line: str | None) -> None:
             self.busy.discard(number)
-            self.loop.call(owner, call, line)
+            self.loop.call(owner, call, lacking[0] if lacking and line is not None else line)
             self.free(number)
 
         if not self.is_known or self.stream is None:
             answered(None)
             return
-        self.rows.extend([*((row, lambda _: None) for row in first), (last, answered)])
+        self.rows.extend([*((row, passed) for row in first), (last, answered)])
         self.stream.write(f"{rows}\n".encode())
         self.stream.wait(True)
 

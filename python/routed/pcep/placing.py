@@ -67,7 +67,7 @@ class Placing:
 
         def offered(line: str | None) -> None:
             answer = Reply.parse(line or "")
-            if line is None or not self.counting.is_ours(lsp) or request is not lsp.request:
+            if line is None or not self.counting.is_ours(lsp) or request is not lsp.request or self.counting.is_tried_again(lsp, line):
                 return
             if answer is None or answer.why:
                 self.lsps.moves.lack(lsp, replace(asked, bandwidth=0), answer.why if answer and answer.why else line)
@@ -90,6 +90,8 @@ class Placing:
         answer, was_proved = Reply.parse(line), self.front.network.is_proved
         if request is not lsp.request:
             self.counting.ask(lsp)
+        elif self.counting.is_tried_again(lsp, line):
+            pass
         elif answer:
             self.lsps.moves.judge(lsp, asked, answer)
             if self.front.network.is_proved and not was_proved:
@@ -134,6 +136,8 @@ class Placing:
         if not self.counting.is_ours(lsp) or self.session.is_full or request is not lsp.request:
             if self.session.state == "up" and lsp.id is not None:
                 self.counting.ask(lsp)
+            return
+        if self.counting.is_tried_again(lsp, line):
             return
         if answer is None or answer.why:
             self.without(lsp, answer.why if answer and answer.why else line)
