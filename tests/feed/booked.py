@@ -79,6 +79,15 @@ def refused(checks, side):
     checks.same("halves of a batch", batches, [(CHAIN_ROWS, 8), (CHAIN_ROWS[:2], 8), (CHAIN_ROWS[2:], 9)])
     feed.end()
     router.hang_up()
+    for answer in ("batch 8 refused: memory", "row 9 refused: memory\nbatch 8 refused: counted 3"):
+        router = side()
+        feed = Feed(router, version=40, told=of_base(7, 40, []))
+        router.send(side.chain)
+        batches = [feed.batch(line) for line in (answer, "base 8 v50", "base 9 v60")]
+        checks.same(f"a batch for which there is no memory is sent again: {answer[:7]}", batches,
+                    [(CHAIN_ROWS, 8), (CHAIN_ROWS[:2], 8), (CHAIN_ROWS[2:], 9)])
+        checks.same(f"nothing of it is left out: {answer[:7]}", (feed.is_quiet(), feed.end()), (True, going_on(40, 0, name=side.name)))
+        router.hang_up()
 
 
 def wrong(checks, side):

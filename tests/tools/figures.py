@@ -25,7 +25,7 @@ from routed.net import http
 REFUSALS = [  # an alarm, its figure and a word of it, and whether one refusal is told of for good
     ("RoutedJournalFailed", "routed_refused_batches_total", "journal", True),
     ("RoutedJournalFailed", "routed_refused_batches_total", "stopped", True),
-    ("RoutedOutOfMemory", "routed_refused_batches_total", "memory", False),
+    *(("RoutedOutOfMemory", f"routed_refused_{rows}_total", "memory", False) for rows in ("batches", "placings", "rows")),
     ("RoutedBatchRefused", "routed_refused_batches_total", "version", False),
     ("RoutedRowRefused", "routed_refused_rows_total", "row", False),
     ("RoutedFeedBatchRefused", "routed_feed_refused_batches_total", "version", False)]
