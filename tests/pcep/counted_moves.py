@@ -189,8 +189,8 @@ def lacking(checks, room):
         front.server.refusing = {"release": word}
         pcc.have(3, "c", "134", 3e6, flags=8)
         front.pass_time(3)
-        checks.same(f"{word}: a placement that isn't released stays, and the book isn't read again", (amounts(front), kinds(front).count("book")),
-                    ([1000000, 2000000], 1))
+        checks.same(f"{word}: a placement that isn't released stays, and the book isn't read again",
+                    (amounts(front), kinds(front).count("book")), ([1000000, 2000000], 1))
         front.server.refusing = {}
         front.pass_time(12)
         checks.same(f"{word}: until it is", amounts(front), [1000000, 3000000])
@@ -207,8 +207,8 @@ def lacking(checks, room):
     front.server.refusing = {"left": "unread"}
     front.server.base(f"put,10.0.0.2,10.2.4.2,10.0.0.4,10.2.4.4,50,0x1,{','.join(['5'] * 8)}")
     front.pass_time(3)
-    checks.same("a link that can't be looked at stays crowded", ([*front.displaced.crowded], len(pcc.told_), said(front, "what is counted on it")),
-                ([("10.0.0.2", "10.2.4.2")], 0, []))
+    checks.same("a link that can't be looked at stays crowded",
+                ([*front.displaced.crowded], len(pcc.told_), said(front, "what is counted on it")), ([("10.0.0.2", "10.2.4.2")], 0, []))
     front.server.refusing = {}
     front.pass_time(2)
     checks.same("and is looked at once memory is there", (pcc.told_, front.displaced.crowded), ([(1, "34")], {}))

@@ -33,8 +33,9 @@ FULL = [  # streams, and how many bytes each file takes: the file of kept rows f
     (LACKED + LACKED.replace("held,2", "held,3") + place(4) + "release,2\nrelease,9\nend,1,0\n", 2 * len(LACKED) - 9),
     (SHORT, len(BASE) + 150)]
 AGAIN = [  # rows that are sent again where memory is refused to one of them: one row, or the rows of a batch
-    [*BASE.splitlines(keepends=True)], [f"{ASKS[0]}\n"], [place(1)], [place(1, 0, 5, hops="10.0.12.2/32l")], [held_row(2, 0, 30)], [offer(3)],
-    ["show,1\n"], [f"left,{LINK}\n"], ["release,1\n"], ["release,1\n"], ["put,1\n"], [held_row(4, route="00")], [place(2, 3, 40)],
+    [*BASE.splitlines(keepends=True)], [f"{ASKS[0]}\n"], [place(1)], [place(1, 0, 5, hops="10.0.12.2/32l")], [held_row(2, 0, 30)],
+    [offer(3)], ["show,1\n"],
+    [f"left,{LINK}\n"], ["release,1\n"], ["release,1\n"], ["put,1\n"], [held_row(4, route="00")], [place(2, 3, 40)],
     ["node,1.1.1.1,0\n", *DROPS.splitlines(keepends=True), "end,2,3\n"], [LACKED.replace("held,2", "held,5")], ["end,9,0\n"],
     [place(6)], ["release,2\n"], ["show,2\n"], ["left,1.1.1.1,1.1.1.1\n"], [*BASE.replace("end,1,", "end,3,").splitlines(keepends=True)]]
 STEPS = 53, 71, 97  # calls from one refused one to the next: more than a batch takes
@@ -116,7 +117,8 @@ class Calls:
         is_whole = seen == everything(wanted)
         is_answered = len(found.asked) == len(self.asks)
         if is_as_ever:
-            return None if is_whole and is_answered and re.fullmatch(self.said, ran.err) else "a run of which nothing is refused isn't as ever"
+            is_as_ever = is_whole and is_answered and re.fullmatch(self.said, ran.err)
+            return None if is_as_ever else "a run of which nothing is refused isn't as ever"
         if not self.are_right(found, wanted):
             return "a client's lines aren't right"
         is_stopped, is_mute = ran.status == 3, flags == ("write", "on") and not ran.err
@@ -125,7 +127,8 @@ class Calls:
         if not is_stopped and not is_answered and not is_mute and b"client 1" not in ran.err:
             return "a client isn't answered"
         if is_whole:
-            return None if wanted is self.wanted or ran.err == b"" or re.fullmatch(self.said, ran.err) else "more is said of a refused row"
+            is_told = wanted is self.wanted or not ran.err or re.fullmatch(self.said, ran.err)
+            return None if is_told else "more is said of a refused row"
         cut = self.cut(found)
         if flags[0] == "write" and cut and (found.lines == cut.lines or is_stopped and cut.lines.startswith(found.lines)):
             is_named = ran.status == 2 and re.search(FAULT, ran.err)

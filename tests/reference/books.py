@@ -270,8 +270,8 @@ Step = collections.namedtuple("Step", "book changes lines kept is_refused")
 def walked(rows, room=math.inf, book=None, publish=lambda before, after, changes: None, lacking=None):
     """A step for each row, however many there are, of a new book or of one that goes on. `room` is how many bytes the file of `--keep`
     takes. Where a row is kept, `publish` gets the book before it and after it, and the changes of its batch, and may raise Fault, too.
-    `lacking` has the numbers of rows that are refused by `memory`, each with the moment: "read", before its fields are read; "taken", before
-    anything is written; or "told", when a write has failed, and the line that says so is made."""
+    `lacking` has the numbers of rows that are refused by `memory`, each with the moment: "read", before its fields are read; "taken",
+    before anything is written; or "told", when a write has failed, and the line that says so is made."""
     book, changes, is_stopped, lacking = book or Book(), [], False, lacking or {}
     for at, fields in enumerate(formats.records(rows), 1):
         subject, before, lines, text, kept, is_refused = f"row {at}", copy.copy(book), [], ",".join(fields) + "\n", "", False

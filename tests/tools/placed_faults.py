@@ -2,9 +2,11 @@
 import os
 import re
 import resource
+import shlex
 import signal
 import sys
 
+from program.refusal import COMPILER, Refuser, counted
 from reference import compacts
 from reference.served_books import Run
 from tools.booking import BASE, ENDED_BOOK, LOW, Booked, asked, place, until
@@ -54,6 +56,46 @@ def full_keep(program, checks, room):
         if said.startswith("routed: figures "):  # that file is larger
             said = front.errors.next()
         checks.same("the log", said, f"listen: placements 1: held {count} refused: keep {size}\n")
+
+
+def out_of_memory(program, checks, room):
+    """Memory is refused to the server now and then: each row that is refused by `memory` is answered once it is sent again, and requests of
+    the front's own are sent again by themselves."""
+    if COMPILER is None:
+        print("a server that lacks memory: skipped, there is no C compiler")
+        return
+    refuser, wrapper, count = Refuser(), os.path.join(room, "wrapper"), 0
+    for name, at, most in (("first", 0, 0), ("then", 1, 60)):
+        env, counts = refuser.refusing("malloc", at * count, every=61)
+        with open(wrapper, "w", encoding="utf-8") as file:
+            given = [f"{key}={shlex.quote(value)}" for key, value in env.items() if key.startswith(("LD_PRELOAD", "REFUSE_"))]
+            file.write(f"#!/bin/sh\n{' '.join(given)} exec {shlex.quote(program.path)} \"$@\"\n")
+        os.chmod(wrapper, 0o755)
+        inner = os.path.join(room, name)
+        os.mkdir(inner)
+        with Booked(type(program)(wrapper), inner, "--clients", "1") as front:
+            one, updating = front.connect(), Connection(front.updates)
+            checks.same(f"a base, {name}", updating.talk(f"{BASE}end,1,4\n"), "base 1 v1\n")
+            one.lines.next()
+            lines = []
+            for number in range(most):
+                lines.append(one.talk(place(number % 7, number % 5)))
+                while lines[-1].endswith(" refused: memory\n"):
+                    lines.append(one.talk(place(number % 7, number % 5)))
+            book = asked(one, "book")
+            front.child.terminate()
+            _, said = front.ended()
+            kept = front.kept_rows()
+        count = counted(counts)[0]
+    wanted = Run(f"{BASE}end,1,4\n" + "".join(place(number % 7, number % 5) for number in range(most)))
+    refused = [line for line in lines if line.endswith(" refused: memory\n")]
+    checks.same("rows that are sent again", "".join(line for line in lines if line not in refused),
+                wanted.lines.removeprefix("base 1 v1\n"))
+    checks.same("what is kept of them", kept, wanted.kept)
+    checks.same("the book of them", book, f"version {most + 1}\n{book_of(wanted.kept)}{ENDED_BOOK}")
+    own = said.count("refused: memory: a request of our own, which is sent again\n")
+    checks.true("memory is refused to rows of both", refused and own, (len(refused), own, said[-500:]))
+    checks.same("the log has each of them", said.count("refused: memory"), len(refused) + own)
 
 
 def full_journal(program, checks, room):
@@ -169,4 +211,4 @@ def raising(program, checks, room):
         eventually(checks, "connections", lambda: figures_of(room)["routed_connections", "placements"], 1)
 
 
-PARTS = (full_keep, full_journal, renewed, kills, raising)
+PARTS = (full_keep, out_of_memory, full_journal, renewed, kills, raising)

@@ -186,7 +186,8 @@ def lacking(_, checks, room):
         it.wait()
         it.version = 3
         checks.same("and again, by which the turn ends", (it.answer(), it.account.version), (b"", 3))
-        checks.same("then others have theirs", (it.answer(b"show 2 refused: absent\n"), it.hear(2)[0]), (SHOW % 2, b"show 2 refused: absent\n"))
+        checks.same("then others have theirs", (it.answer(b"show 2 refused: absent\n"), it.hear(2)[0]),
+                    (SHOW % 2, b"show 2 refused: absent\n"))
         checks.same("the log", it.log().count("a request of our own, which is sent again\n"), 2)
         it.say(1, SHOW % 1 + b"book\n" + SHOW % 3)
         it.say(2, SHOW % 2)
