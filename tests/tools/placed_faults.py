@@ -6,7 +6,7 @@ import shlex
 import signal
 import sys
 
-from program.refusal import COMPILER, Refuser, counted
+from program.refusal import COMPILER, Refuser
 from reference import compacts
 from reference.served_books import Run
 from tools.booking import BASE, ENDED_BOOK, LOW, Booked, asked, place, until
@@ -16,6 +16,7 @@ from tools.plants import ENDED, left, plant, planted
 from tools.reading import eventually, figures_of
 from tools.runs import LOOKING
 
+FIRST, EACH, PLACINGS = 600, 97, 60  # the server's request for memory that is refused first, and from one to the next; placings
 LOST = "held,{},9.9.9.9,8.8.8.8,7,5,0x00000000,0x00000000,0x00000000,,0909090908080808\n"  # over a link that isn't there: no put row
 
 
@@ -64,38 +65,35 @@ def out_of_memory(program, checks, room):
     if COMPILER is None:
         print("a server that lacks memory: skipped, there is no C compiler")
         return
-    refuser, wrapper, count = Refuser(), os.path.join(room, "wrapper"), 0
-    for name, at, most in (("first", 0, 0), ("then", 1, 60)):
-        env, counts = refuser.refusing("malloc", at * count, every=61)
-        with open(wrapper, "w", encoding="utf-8") as file:
-            given = [f"{key}={shlex.quote(value)}" for key, value in env.items() if key.startswith(("LD_PRELOAD", "REFUSE_"))]
-            file.write(f"#!/bin/sh\n{' '.join(given)} exec {shlex.quote(program.path)} \"$@\"\n")
-        os.chmod(wrapper, 0o755)
-        inner = os.path.join(room, name)
-        os.mkdir(inner)
-        with Booked(type(program)(wrapper), inner, "--clients", "1") as front:
-            one, updating = front.connect(), Connection(front.updates)
-            checks.same(f"a base, {name}", updating.talk(f"{BASE}end,1,4\n"), "base 1 v1\n")
-            one.lines.next()
-            lines = []
-            for number in range(most):
+    wrapper, lines = os.path.join(room, "wrapper"), []
+    refuser = Refuser()
+    env, _ = refuser.refusing("malloc", FIRST, every=EACH)
+    given = [f"{key}={shlex.quote(value)}" for key, value in env.items() if key.startswith(("LD_PRELOAD", "REFUSE_"))]
+    with open(wrapper, "w", encoding="utf-8") as file:
+        file.write(f"#!/bin/sh\n[ $1 = serve ] || exec {shlex.quote(program.path)} \"$@\"\n"
+                   f"{' '.join(given)} exec {shlex.quote(program.path)} \"$@\"\n")
+    os.chmod(wrapper, 0o755)
+    with Booked(type(program)(wrapper), room, "--clients", "1") as front:
+        one, updating = front.connect(), Connection(front.updates)
+        checks.same("a base", updating.talk(f"{BASE}end,1,4\n"), "base 1 v1\n")
+        one.lines.next()
+        for number in range(PLACINGS):
+            lines.append(one.talk(place(number % 7, number % 5)))
+            while lines[-1].endswith(" refused: memory\n"):
                 lines.append(one.talk(place(number % 7, number % 5)))
-                while lines[-1].endswith(" refused: memory\n"):
-                    lines.append(one.talk(place(number % 7, number % 5)))
-            book = asked(one, "book")
-            front.child.terminate()
-            _, said = front.ended()
-            kept = front.kept_rows()
-        count = counted(counts)[0]
-    wanted = Run(f"{BASE}end,1,4\n" + "".join(place(number % 7, number % 5) for number in range(most)))
+        book, found = asked(one, "book"), figures_of(room)
+        front.child.terminate()
+        _, said = front.ended()
+        kept = front.kept_rows()
+    wanted = Run(f"{BASE}end,1,4\n" + "".join(place(number % 7, number % 5) for number in range(PLACINGS)))
     refused = [line for line in lines if line.endswith(" refused: memory\n")]
     checks.same("rows that are sent again", "".join(line for line in lines if line not in refused),
                 wanted.lines.removeprefix("base 1 v1\n"))
     checks.same("what is kept of them", kept, wanted.kept)
-    checks.same("the book of them", book, f"version {most + 1}\n{book_of(wanted.kept)}{ENDED_BOOK}")
+    checks.same("the book of them", book, f"version {PLACINGS + 1}\n{book_of(wanted.kept)}{ENDED_BOOK}")
     own = said.count("refused: memory: a request of our own, which is sent again\n")
     checks.true("memory is refused to rows of both", refused and own, (len(refused), own, said[-500:]))
-    checks.same("the log has each of them", said.count("refused: memory"), len(refused) + own)
+    checks.same("figures of them", found.get(("routed_refused_placings_total", "memory")), len(refused))
 
 
 def full_journal(program, checks, room):
