@@ -10,6 +10,7 @@ import functools
 import os
 import re
 import shutil
+import signal
 import time
 
 from program.book_faults import narrow
@@ -21,7 +22,7 @@ from program.known_books import BASE, MASKS, held_row, offer, place
 from program.known_served_books import DROPS, LINK
 from program.refusal import COMPILER, Refuser, counted, each
 from program.refused import CAUSES, REFUSALS
-from program.serving import AT
+from program.serving import AT, PATIENCE
 from program.serving_book import Answers, ServingBook
 from reference.served_books import Run
 
@@ -88,7 +89,7 @@ class Calls:
         for name in ("keep", "journal"):
             words += [f"--{name}", os.path.join(inner, name)]
         ran = refuser.run(words, flags[0], number, *flags[1:], stdin=os.path.join(self.room, "rows"), **self.how)
-        found, fault = Refused(ran, inner), ran.fault()
+        found, fault = Refused(ran, inner), None if self.is_killed(ran, flags) else ran.fault()
         shutil.rmtree(inner)
         if fault is None:
             is_as_ever = ran.refused == 0 or "short" in flags
@@ -96,6 +97,10 @@ class Calls:
         if fault:
             fault = f"{fault}: status {ran.status}, {ran.out[-300:]}, {ran.err[-300:]}, {found.kept[-100:]!r}, {found.journal[-200:]!r}"
         return ran.refused != 0, fault
+
+    def is_killed(self, ran, flags):
+        """Whether a full file ended a run by a signal, as it does where there was no memory to read the limit of files at the start."""
+        return bool(self.said) and flags[0] == "malloc" and ran.status == -signal.SIGXFSZ
 
     @functools.cached_property
     def lacking(self):
@@ -111,6 +116,9 @@ class Calls:
     def fault(self, found, flags, is_as_ever):
         """What is wrong with a run, or None."""
         ran, seen = found.ran, (found.ran.status, found.lines, found.kept, found.journal)
+        if ran.status < 0:
+            is_cut = seen[2:] == everything(self.wanted)[2:] and self.wanted.lines.startswith(found.lines)
+            return None if is_cut else "a signal ends a run elsewhere than at a full file"
         wanted = next((run for run in self.lacking.get(found.lines, ()) if flags == ("malloc",) and seen == everything(run)), self.wanted)
         if MEMORY in found.lines and wanted is self.wanted:
             return "a row is refused by memory, and the run isn't one of those without it"
@@ -217,8 +225,9 @@ def sent_again(program, refuser, room, number, seen, **every):
         run.close_rows(1)  # so the run ends with its rows
         again = Again(run)
         is_fed = again.feed(AGAIN)
-        (said, _), status, err = run.end()
-        texts = run.texts()
+        run.close_rows(0)
+        status, said = run.child.wait(PATIENCE), run.leave(0)  # a run that ends at its start opens no pipe of a client
+        err, texts = run.child.stderr.read().decode(), run.texts()
     shutil.rmtree(inner)
     seen |= again.kinds()
     refused = counted(counts)[1]
