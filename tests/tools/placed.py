@@ -168,7 +168,7 @@ class Placing(threading.Thread):
     def __init__(self, taken, number, turns):
         super().__init__(daemon=True)
         self.taken, self.number, self.turns, self.heard, self.sent = taken, number, turns, "", []
-        self.count = number * 10 ** 9
+        self.count = (number + 1) * 10 ** 9  # no id of a drawn row
 
     def run(self):
         for rows in self.turns:
