@@ -260,15 +260,25 @@ def build(program, checks, room):
     checks.same("make install takes the record along", of_tools.logic(os.path.join(installed, "usr/local/bin/routed")), "fedc")
 
 
+def settled(room, label, number):
+    """The figures, and what /proc has of a process: once both have the same virtual memory, which threads still take at the start."""
+    end = time.monotonic() + PATIENCE
+    while True:
+        now = figures_of(room)
+        with open(f"/proc/{number}/status", encoding="ascii") as file:
+            status = dict(line.rstrip().split(":\t") for line in file if line.startswith("Vm"))
+        if now.get(("process_virtual_memory_bytes", label)) == 1024 * int(status["VmSize"].split()[0]) or time.monotonic() > end:
+            return now, status
+        time.sleep(0.05)
+
+
 def processes(program, checks, room):
     before = time.time()
     with seen(program, room) as front:
         Connection(front.updates).talk(FIRST)
         numbers = {"front": front.child.pid, "program": front.server()}
-        now = figures_of(room)
         for label, number in numbers.items():
-            with open(f"/proc/{number}/status", encoding="ascii") as file:
-                status = dict(line.rstrip().split(":\t") for line in file if line.startswith("Vm"))
+            now, status = settled(room, label, number)
             checks.same(f"virtual memory of the {label}", now.get(("process_virtual_memory_bytes", label)),
                         1024 * int(status["VmSize"].split()[0]))
             resident = now.get(("process_resident_memory_bytes", label), 0)
