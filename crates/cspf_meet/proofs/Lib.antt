@@ -4,3 +4,4 @@ pub mod Waiting
 pub mod Looked
 pub mod Apart
 pub mod Corridors
+pub mod Guiding

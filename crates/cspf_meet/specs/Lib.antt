@@ -3,3 +3,4 @@ pub mod Looks
 pub mod Bounds
 pub mod Corridors
 pub mod Meetings
+pub mod Guided

@@ -17,7 +17,7 @@ use crate::limits::NO_WAY;
 use std::cmp::Reverse;
 
 /// The least rank in these keys, or `NO_WAY` if there are no keys.
-fn least_of_keys(keys: &[Reverse<u64>]) -> u64
+pub(crate) fn least_of_keys(keys: &[Reverse<u64>]) -> u64
     ensures least { All (λ key. result ≤ key.0 / MOST_ROUTERS) keys.now }
     ensures small { result ≤ NO_WAY }
 {

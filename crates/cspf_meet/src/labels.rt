@@ -11,7 +11,7 @@ use std::cmp::Reverse;
 use std::collections::BinaryHeap;
 
 /// The number of routers in the type of keys.
-const ROUTERS: u64 = 1024;
+pub(crate) const ROUTERS: u64 = 1024;
 
 /// The rank in a key of the heap, which packs the rank of a router's label and the router's index
 /// into one number.

@@ -9,9 +9,12 @@
 #![tactic(auto)]
 
 mod bounds;
+mod by_bounds;
 mod corridor;
 mod direction;
 mod edge;
+mod guide;
+mod guided;
 mod labels;
 mod limits;
 mod look;
@@ -20,4 +23,5 @@ mod narrow;
 mod search;
 mod turn;
 
+pub use by_bounds::best_by_bounds;
 pub use search::best_from_both_ends;

@@ -17,3 +17,12 @@ pub(crate) const FEW: usize = 12;
 
 /// The greatest number of keys that both searches take from their heaps.
 pub(crate) const MOST_TURNS: usize = 65_536;
+
+/// The greatest number of keys that a search takes that lower bounds guide. If there is no route,
+/// such a search would look at all routers that it can reach, where the search from both ends may
+/// find at once that only a few routers lead to the tail-end. On drawn networks of 1,024 routers one
+/// in 100 searches for a route takes more keys than this.
+pub(crate) const MOST_GUIDED_TURNS: usize = 512;
+
+/// The key that stands for no router.
+pub(crate) const NO_KEY: u64 = 18_446_744_073_709_551_615;

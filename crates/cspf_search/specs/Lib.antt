@@ -10,5 +10,6 @@ pub mod Query
 pub mod Searched
 pub mod RoundSteps
 pub mod Source
+pub mod Packing
 pub mod Trees
 pub mod TreeSteps

@@ -1,11 +1,10 @@
 -- Private: trees of lower bounds. Requests with the same tail-end and the same affinities share a
 -- tree.
-use Rattle.std.specs.Prelude.{◌≡◌, ℕ, ◌+◌, ◌*◌, ◌≤◌, min, nat_lt, if◌then◌else◌}
+use Rattle.std.specs.Prelude.{◌≡◌, ℕ, ◌+◌, ◌/◌, ◌%◌, ◌≤◌}
 use Rattle.cspf_model.specs.declared.link.Link.{Link}
 use Rattle.cspf_model.specs.declared.request.Request.{Request}
 use Rattle.cspf_model.specs.Database.{Database, HasReverse, IsLinkOf}
 use Rattle.cspf_model.specs.Admissible.{HasAffinity}
-use Rattle.cspf_search.specs.declared.limits.TheConstants.{MOST_COUNTED_LINKS}
 use Rattle.cspf_search.specs.declared.tree.Tree.{Tree}
 use Rattle.cspf_graph.specs.Lists.{IsIndexOf}
 use Rattle.cspf_graph.specs.Roles.{MayLeadOver}
@@ -28,21 +27,18 @@ pub record IsInClass (d : Database) (q : Request) (l : Link) : Type 0 where
   pub reverse : HasReverse d l
   pub affinity : HasAffinity q l
 
--- A lower bound of the cost from the router at the index `place` to the tail-end: the lesser of the
--- router's own cost in the tree and the tree's edge.
+-- A lower bound of the cost from the router at the index `place` to the tail-end.
 abbrev pub tree_bound : Tree → ℕ → ℕ
-tree_bound tree place = min (bound_at tree.near.items place) tree.edge
+tree_bound tree place = bound_at tree.ranks.items place / COST_WEIGHT
 
--- The tree's number of links from the router at the index `place` to the tail-end. It is 0 if the
--- router's bound is the tree's edge, which is the least cost of the routers that the search hasn't
--- settled.
+-- The tree's number of links from the router at the index `place` to the tail-end.
 abbrev pub tree_links : Tree → ℕ → ℕ
-tree_links tree place = if nat_lt (bound_at tree.near.items place) tree.edge then bound_at tree.links.items place else 0
+tree_links tree place = bound_at tree.ranks.items place % COST_WEIGHT
 
 -- A lower bound of the rank of a way from the router at the index `place` to the tail-end. The rank
 -- of a way packs its cost and its number of links into one number.
 abbrev pub tree_rank : Tree → ℕ → ℕ
-tree_rank tree place = tree_bound tree place * COST_WEIGHT + min (tree_links tree place) MOST_COUNTED_LINKS
+tree_rank tree place = bound_at tree.ranks.items place
 
 -- The tree belongs to the tail-end and the affinities of the request in the database. It gives for
 -- each router a lower bound of the cost to the tail-end, and a number of links. At the tail-end

@@ -6,7 +6,7 @@ ghost use Rattle.std.specs.Prelude.{◌≡◌, ◌≢◌, ◌+◌, ◌-◌, ◌*
 ghost use Rattle.cspf_search.specs.Query.{IsQuery};
 ghost use Rattle.cspf_graph.specs.Lists.{IsIndexOf};
 ghost use Rattle.cspf_graph.specs.Roles.{AreTargetsOf};
-ghost use Rattle.cspf_search.specs.Trees.{IsTree};
+ghost use Rattle.cspf_search.specs.Trees.{IsTree, tree_bound};
 ghost use Rattle.cspf_search.specs.Bounds.{ArePassed, AreReached, AreBounds, Falls, IsLegBound, IsLower, IsPassed, IsRing, IsDeadEnd, bound_at, is_done};
 ghost use Rattle.cspf_db.specs.Index.{links_of, router_list};
 ghost use Rattle.cspf_columns.specs.declared.limits.TheConstants.{NO_LINK};
@@ -327,6 +327,20 @@ fn set_legs(
     Ok(())
 }
 
+/// Sets the bound of each router in a leg to the one that a tree gives. `first` is the index of the
+/// leg's first state, and `count` is the number of routers. A state is a router in a leg.
+fn set_leg_by(bounds: &mut [u32], first: usize, count: usize, tree: &Tree)
+    requires within { first + count ≤ length bounds.old }
+    requires count { count ≤ MOST_ROUTERS }
+    ensures leg { (p : ℕ) → p < count → bound_at bounds.new (first + p) ≡ tree_bound tree.now p }
+    ensures others { (i : ℕ) → (i < first) ⊎ (first + count ≤ i)
+        → bound_at bounds.new i ≡ bound_at bounds.old i }
+{
+    for place in 0..count {
+        bounds[first + place] = tree.least_cost(place);
+    }
+}
+
 /// Sets the bounds of all routers in the last leg to those that a tree gives.
 fn set_last_leg(query: Query<'_>, tree: &Tree, bounds: &mut [u32])
     requires query { IsQuery query }
@@ -337,13 +351,7 @@ fn set_last_leg(query: Query<'_>, tree: &Tree, bounds: &mut [u32])
     ensures zeros { (i : ℕ) → i < (query.entry.legs - 1) * MOST_ROUTERS → bound_at bounds.new i ≡ 0 }
 {
     let count = query.table.routers().len();
-    set_leg(
-        bounds,
-        (query.legs - 1) * MOST_ROUTERS,
-        count,
-        &tree.near,
-        tree.edge,
-    );
+    set_leg_by(bounds, (query.legs - 1) * MOST_ROUTERS, count, tree);
 }
 
 /// Sets the bound of each router in each leg. If a tree is given, the bounds in the last leg come

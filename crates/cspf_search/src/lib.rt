@@ -16,6 +16,7 @@ mod goal;
 mod labels;
 mod laws;
 mod limits;
+mod packing;
 mod query;
 mod ring;
 mod ring_edge;

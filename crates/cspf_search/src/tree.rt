@@ -1,9 +1,9 @@
 //! Trees of lower bounds. Requests with the same tail-end and the same affinities share a tree.
 
-ghost use Rattle.std.specs.Prelude.{◌≡◌, length};
+ghost use Rattle.std.specs.Prelude.{◌≡◌, ◌<◌, ◌^◌, All, length};
 ghost use Rattle.cspf_model.specs.declared.limits.TheConstants.{MOST_ROUTERS};
 
-use crate::limits::MOST_COUNTED_LINKS;
+use crate::packing::pack;
 use crate::ring_edge::least_open;
 use crate::tree_ring::TreeRing;
 use crate::tree_steps::settle;
@@ -19,23 +19,19 @@ use std::alloc::{AllocError, Global};
 /// of links.
 #[derive(Drop)]
 pub struct Tree {
-    /// For each router, the least cost to the tail-end that the search found, or `NO_WAY`.
-    pub(crate) near: Vec<u32>,
-    /// For each router, the least number of links that the search found for a way of the cost in
-    /// `near`.
-    links: Vec<u16>,
-    /// The edge: the least cost of the routers that the search hasn't settled. No bound that the
-    /// tree gives exceeds this cost.
-    pub(crate) edge: u32,
-    ghost many: { length near.items ≡ MOST_ROUTERS },
-    ghost counts: { length links.items ≡ MOST_ROUTERS },
+    /// For each router, its bound of the cost times `COST_WEIGHT`, plus its bound of the number of
+    /// links. So this is a lower bound of the rank of a way to the tail-end. The rank of a way packs
+    /// its cost and its number of links into one number.
+    pub(crate) ranks: Vec<u64>,
+    ghost many: { length ranks.items ≡ MOST_ROUTERS },
+    ghost small: { All (λ rank. rank < 2 ^ 42) ranks.items },
 }
 
 impl Tree {
-    ghost use Rattle.std.specs.Prelude.{◌<◌, IfOk, IfSome, IfNone};
+    ghost use Rattle.std.specs.Prelude.{IfOk, IfSome, IfNone};
     ghost use Rattle.cspf_model.specs.declared.request.Request.{Request as Asked};
     ghost use Rattle.cspf_model.specs.Database.{IsRouterOf};
-    ghost use Rattle.cspf_search.specs.Trees.{IsTree, ShareTrees, tree_bound, tree_links};
+    ghost use Rattle.cspf_search.specs.Trees.{IsTree, ShareTrees, tree_bound};
 
     /// The tree for the tail-end and the affinities of a request. The result is `None` if no link
     /// begins or ends at the tail-end. All requests with this tail-end and these affinities share
@@ -61,29 +57,16 @@ impl Tree {
             ..
         } = ring;
         let edge = least_open(&near, &done, table.routers().len());
-        Ok(Some(Tree { near, links, edge }))
+        let ranks = pack(alloc, &near, &links, edge)?;
+        Ok(Some(Tree { ranks }))
     }
 
     /// The bound of the cost from the router at the index `place` in the list of routers.
-    fn least_cost(&self, place: usize) -> u32
+    pub(crate) fn least_cost(&self, place: usize) -> u32
         requires { place < MOST_ROUTERS }
         ensures { result ≡ tree_bound self.now place }
     {
-        self.near[place].min(self.edge)
-    }
-
-    /// A lower bound of the number of links of certain ways from the router at the index `place` to
-    /// the tail-end: those that cost no more than the router's bound. It is 0 if the router's bound
-    /// is the edge, the least cost of the routers that the search hasn't settled.
-    fn least_links(&self, place: usize) -> u16
-        requires { place < MOST_ROUTERS }
-        ensures { result ≡ tree_links self.now place }
-    {
-        if self.near[place] < self.edge {
-            self.links[place]
-        } else {
-            0
-        }
+        (self.ranks[place] / COST_WEIGHT) as u32
     }
 }
 
@@ -92,8 +75,8 @@ impl LowerBounds for Tree {
 
     ghost bound_of = { tree_rank };
 
+    #[inline(always)]
     fn bound(&self, place: usize) -> u64 {
-        let links = self.least_links(place).min(MOST_COUNTED_LINKS);
-        u64::from(self.least_cost(place)) * COST_WEIGHT + u64::from(links)
+        self.ranks[place]
     }
 }

@@ -2,7 +2,7 @@
 
 ghost use Rattle.std.specs.Prelude.{◌*◌, ◌<◌};
 
-use crate::limits::{ASK_SHARE, MOST_TREES, SEARCH_COST, TREE_COST, WALK_COST};
+use crate::limits::{ASK_SHARE, GUIDED_COST, MOST_TREES, SEARCH_COST, TREE_COST, WALK_COST};
 
 /// When the tree of a class is grown. A class is all requests with one tail-end and the same
 /// affinities.
@@ -10,7 +10,7 @@ use crate::limits::{ASK_SHARE, MOST_TREES, SEARCH_COST, TREE_COST, WALK_COST};
 pub enum Growth {
     /// Once a budget pays for the tree, at the sixth request of the class or later. The budget has
     /// 3 in 100 of what all requests without hops would take without trees. It also has what walks
-    /// by trees have saved. So at each time the trees have cost at most 3 in 100 more than they
+    /// by trees have saved, and searches that trees guide. So at each time the trees have cost at most 3 in 100 more than they
     /// have saved, whichever requests follow.
     AsPaid,
     /// At this request of the class, counted from 1. A number above 64 counts as 64.
@@ -52,6 +52,15 @@ impl Budget {
     /// the search that it has saved.
     pub(crate) fn add_walk(&mut self, has_answered: bool) {
         self.take(WALK_COST);
+        if has_answered {
+            self.add(SEARCH_COST);
+        }
+    }
+
+    /// Takes the cost of a search that a tree guides. If it has answered the request, adds the cost
+    /// of the search from both ends that it has saved.
+    pub(crate) fn add_guided(&mut self, has_answered: bool) {
+        self.take(GUIDED_COST);
         if has_answered {
             self.add(SEARCH_COST);
         }

@@ -6,7 +6,7 @@ ghost use Rattle.std.specs.Prelude.{◌*◌, ◌+◌, ◌<◌, ◌≤◌};
 pub const MOST_TREES: usize = 4096;
 
 /// The number of bytes that the bounds of a tree need.
-pub const TREE_BYTES: usize = 6144;
+pub const TREE_BYTES: usize = 8192;
 
 /// The limit for the bounds of trees, in megabytes, if a run is given no other limit.
 pub const TREE_MEGABYTES: u16 = 64;
@@ -33,6 +33,12 @@ pub(crate) const SEARCH_COST: u64 = 100;
 /// The cost of a walk by a tree, in hundredths of a search. On a drawn network of 1,024 routers and
 /// 16,384 links, a walk takes 2 to 10 hundredths of the instructions of a search.
 pub(crate) const WALK_COST: u64 = 10;
+
+/// The cost of a search that a tree guides, in hundredths of a search. It follows where a walk by
+/// the tree meets a router without a link of the request's bandwidth. On such a network of 1,024
+/// routers and 16,384 links it takes 65 hundredths of the instructions of a search, or 70 if all
+/// metrics are 1.
+pub(crate) const GUIDED_COST: u64 = 70;
 
 /// The cost of growing a tree, in hundredths of a search. On a drawn network of 1,024 routers and
 /// 16,384 links, growing a tree takes 1,030,000 instructions. A search takes 71,000 instructions, or

@@ -8,7 +8,7 @@ use crate::growth::{Budget, Growth};
 use crate::laws::trees_outlast_bandwidth;
 use crate::limits::{ASKS_FOR_A_TREE, MOST_ASKS, MOST_TREES};
 use crate::owners::Owners;
-use crate::searches::{best_after_walk, best_without_tree};
+use crate::searches::{best_after_tree, best_guided, best_without_tree};
 use crate::tree_row::{TreeRow, ask, empty_rows, find, trees_of};
 use cspf_addr::{Addr, Prefix};
 use cspf_db::Table;
@@ -227,13 +227,20 @@ impl Trees {
         let Some(tree) = &self.rows[at].tree else {
             return best_without_tree(alloc, table, request);
         };
-        let found = best_by_walk(alloc, table, request, tree)?;
+        let walked = best_by_walk(alloc, table, request, tree)?;
         if is_direct {
-            self.budget.add_walk(found.is_some());
+            self.budget.add_walk(walked.is_some());
         }
-        match found {
+        if let Some(outcome) = walked {
+            return Ok(outcome);
+        }
+        let guided = best_guided(alloc, table, request, tree)?;
+        if is_direct {
+            self.budget.add_guided(guided.is_some());
+        }
+        match guided {
             Some(outcome) => Ok(outcome),
-            None => best_after_walk(alloc, table, request, tree),
+            None => best_after_tree(alloc, table, request, tree),
         }
     }
 

@@ -50,18 +50,40 @@ fn are_routes_after(
     are_routes(alloc, &table, request, &mut trees)
 }
 
+// Whether a request from ONE to TWO gets its route of one link from a table that has absorbed these
+// changes, as `are_routes_after` says, or an allocation error and then its route.
+fn are_routes_at_last(alloc: Global, changes: &[Change]) -> Result<bool, Fail> {
+    let asked = request((ONE, TWO), 0, (0, 0, 0), b"")?;
+    Ok(match are_routes_after(alloc, changes, &asked) {
+        Err(_refused) => {
+            !has_memory(alloc) || are_routes_after(alloc, changes, &asked) == Ok(true)
+        }
+        found => found == Ok(true),
+    })
+}
+
 #[test]
 fn answers_by_trees_while_memory_is_refused(rt: HostRuntime) -> Result<(), Fail> {
-    let alloc = rt.alloc();
-    let put = Change::Put(link(&(ONE, 1, TWO, 2, 10, 1000))?);
-    let back = Change::Put(link(&(TWO, 2, ONE, 1, 10, 0))?);
-    let changes = [put, back];
-    let asked = request((ONE, TWO), 0, (0, 0, 0), b"")?;
-    let found = match are_routes_after(alloc, &changes, &asked) {
-        Err(_refused) => !has_memory(alloc)
-            || are_routes_after(alloc, &changes, &asked) == Ok(true),
-        found => found == Ok(true),
-    };
+    let changes = [
+        Change::Put(link(&(ONE, 1, TWO, 2, 10, 1000))?),
+        Change::Put(link(&(TWO, 2, ONE, 1, 10, 0))?),
+    ];
+    let found = are_routes_at_last(rt.alloc(), &changes)?;
+    assert!(rt; found);
+    Ok(())
+}
+
+// The link of the least metric has no unreserved bandwidth, so that the walk by a tree ends at once,
+// and the tree guides a search.
+#[test]
+fn answers_by_guided_searches_while_memory_is_refused(rt: HostRuntime) -> Result<(), Fail> {
+    let changes = [
+        Change::Put(link(&(ONE, 1, TWO, 2, 10, 1000))?),
+        Change::Put(link(&(TWO, 2, ONE, 1, 10, 0))?),
+        Change::Put(link(&(ONE, 3, TWO, 4, 5, 0))?),
+        Change::Put(link(&(TWO, 4, ONE, 3, 5, 0))?),
+    ];
+    let found = are_routes_at_last(rt.alloc(), &changes)?;
     assert!(rt; found);
     Ok(())
 }

@@ -1,6 +1,6 @@
-use Rattle.std.proofs.Common.{◌≡◌, ◌-◌, length, ap, arith}
+use Rattle.std.proofs.Common.{◌≡◌, ◌-◌, length, sym, ap, ◌∙◌, arith}
 use Rattle.cspf_search.proofs.LegBounds.{one_leg_more}
-use Rattle.cspf_search.proofs.Trees.{leg_of_tree}
+use Rattle.cspf_search.proofs.Trees.{cost_told, leg_of_tree, tree_costs}
 use Rattle.cspf_search.proofs.bounds.set_last_leg.Goals as goal
 
 pub returns-clause-bounds : goal.returns-clause-bounds
@@ -11,6 +11,7 @@ returns-clause-bounds c =
     let leg = c.args.query.legs - 1 in
     let last : c.args.query.legs - 1 ≡ length c.args.query.request.now.hops = omega (arith, c.requires.query.count) in
     let all = ap length c.routers-count.ensures.all in
-    let here = rw c.deref.ensures.value at c.set_leg.ensures.leg in
-    one_leg_more d q leg (length c.routers-count.result.now) all c.routers-count.ensures.few c.args.bounds.now c.set_leg.new.bounds tree.near.items tree.edge (omega arith) c.requires.bounds
-    (λ i low. c.requires.zeros i) (leg_of_tree d q tree c.requires.tree leg last _) c.set_leg.auto.bounds here c.set_leg.ensures.others
+    let few = c.routers-count.ensures.few in
+    one_leg_more d q leg (length c.routers-count.result.now) all few c.args.bounds.now c.set_leg_by.new.bounds (tree_costs tree) 4294967295 (omega arith) c.requires.bounds
+    (λ i low. c.requires.zeros i) (leg_of_tree d q tree (omega (arith, all, few)) c.requires.tree leg last _) c.set_leg_by.auto.bounds
+    (λ p within. c.set_leg_by.ensures.leg p within ∙ sym (cost_told tree p (omega (arith, within, few)))) c.set_leg_by.ensures.others

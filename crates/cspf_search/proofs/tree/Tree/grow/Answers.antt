@@ -15,6 +15,7 @@ returns-clause-known c r share =
     let zero : bound_at c.settle.new.ring.near.items c.in-Some.to ≡ 0 = omega (arith, low.0, begun.cost) in
     let none : bound_at c.settle.new.ring.links.items c.in-Some.to ≡ 0 = omega (arith, low.1 (omega (arith, zero, begun.cost)), begun.count) in
     let edge = rw (c.deref.ensures.value, c.deref-2.ensures.value) at c.least_open-edge.ensures in
+    let packed = rw (c.deref-3.ensures.value, c.deref-4.ensures.value) at c.in_ok-ranks.ensures.each in
     let is =
-    tree_of_ring d _ ring _ refl refl c.in_ok-settle.ensures.ring (λ w left. edge w (omega (arith, left, many))) c.listed.ensures.listed c.in-Some.to to zero none in
+    tree_of_ring d _ ring c.least_open-edge.result _ packed c.in_ok-settle.ensures.ring (λ w left. edge w (omega (arith, left, many))) c.listed.ensures.listed c.in-Some.to to zero none in
     shared_tree d _ r _ (record { to = share.to; exclude_any = share.exclude_any; include_any = share.include_any; include_all = share.include_all }) is
