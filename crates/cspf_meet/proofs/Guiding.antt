@@ -1,11 +1,10 @@
 -- Lemmas on the search from the head-end that lower bounds guide.
-use Rattle.std.proofs.Common.{◌≡◌, ◌≢◌, ◌⊎◌, inl, inr, ℕ, ◌+◌, ◌-◌, ◌*◌, ◌/◌, ◌%◌, ◌<◌, ◌≤◌, max, min, List, ◌∷◌, length, set, heap_items, sym, ap, subst, ◌∙◌, arith}
-use Rattle.std.specs.List.{All, Contains}
+use Rattle.std.proofs.Common.{◌≡◌, ◌≢◌, ◌⊎◌, inl, inr, ℕ, ◌+◌, ◌-◌, ◌*◌, ◌<◌, ◌≤◌, max, min, List, ◌∷◌, length, set, heap_items, sym, ap, subst, ◌∙◌, arith}
+use Rattle.std.specs.List.{Contains}
 use Rattle.std.specs.List.Sorted.{IsPermutation}
 use Rattle.std.specs.declared.cmp.Reverse.{Reverse}
 use Rattle.std.proofs.lemmas.Bool.{cases_lt}
 use Rattle.std.proofs.lemmas.List.{get_or-set_same}
-use Rattle.std.proofs.lemmas.List.Elements.{All-contains}
 use Rattle.cspf_model.specs.declared.request.Request.{Request}
 use Rattle.cspf_model.specs.Database.{Database}
 use Rattle.cspf_graph.specs.Lists.{AreListed, IsIndexOf}
@@ -15,7 +14,7 @@ use Rattle.cspf_meet.specs.declared.guided.Guided.{Guided}
 use Rattle.cspf_meet.specs.Bounds.{head_bound}
 use Rattle.cspf_meet.specs.Corridors.{NoneNeedsLook}
 use Rattle.cspf_meet.specs.Guided.{AreGuided, AreStepsGuided, GuidedFalls, IsGuidedWaiting, IsStepGuided, guided_key}
-use Rattle.cspf_meet.specs.Labels.{rank_at, waiting_key}
+use Rattle.cspf_meet.specs.Labels.{rank_at}
 use Rattle.cspf_meet.proofs.Falling.{falls_on}
 use Rattle.cspf_meet.proofs.Waiting.{falls_at, key_there, keys_there}
 use Rattle.cspf_walk.specs.Ways.{IsRankBound, Leads}

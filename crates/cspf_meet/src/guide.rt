@@ -31,8 +31,9 @@ fn has_room(link: &Link, request: &Request) -> bool
 
 /// Offers the router at the index `place` the way over a link from a router of the rank `rank`. If
 /// this way has a lower rank than the router, a way over it to the tail-end may have at most the
-/// rank `guided.most`, and the request may use the link, the router gets this rank and waits.
-/// Nothing changes if `reverse` is `NO_LINK`.
+/// rank `guided.most`, and the request may use the link, the router gets this rank and waits. `near`
+/// has for each router its rank in the search from the tail-end. Nothing changes if `reverse` is
+/// `NO_LINK`.
 #[inline(always)]
 fn pass<B: LowerBounds>(
     query: LocatedRequest<'_>,
@@ -41,9 +42,11 @@ fn pass<B: LowerBounds>(
     link: &Link,
     place: u16,
     reverse: u16,
+    near: &[u64],
     guided: &mut Guided,
 ) -> Result<(), AllocError>
     requires query { IsLocatedRequest query }
+    requires near { length near.now ≡ MOST_ROUTERS }
     requires place { place < length (router_list query.table.now) }
     requires rank { rank < 2 ^ 54 }
     ensures falls { OnOk result (GuidedFalls (B.bound_of bounds.now) guided.old guided.new) }
@@ -67,9 +70,7 @@ fn pass<B: LowerBounds>(
         return Ok(());
     }
     guided.lower(place, there, over)?;
-    if end == query.to {
-        guided.most = over;
-    }
+    guided.meet(there.saturating_add(near[end]));
     Ok(())
 }
 
@@ -80,9 +81,11 @@ fn look<B: LowerBounds>(
     bounds: &B,
     place: usize,
     rank: u64,
+    near: &[u64],
     guided: &mut Guided,
 ) -> Result<(), AllocError>
     requires query { IsLocatedRequest query }
+    requires near { length near.now ≡ MOST_ROUTERS }
     requires within { place < length (router_list query.table.now) }
     requires rank { rank < 2 ^ 54 }
     ensures falls { OnOk result (GuidedFalls (B.bound_of bounds.now) guided.old guided.new) }
@@ -100,6 +103,7 @@ fn look<B: LowerBounds>(
             &links[row],
             ends[row],
             reverses[row],
+            near,
             guided,
         )?;
     }
@@ -112,13 +116,16 @@ fn look<B: LowerBounds>(
 fn turn<B: LowerBounds>(
     query: LocatedRequest<'_>,
     bounds: &B,
+    near: &[u64],
     guided: &mut Guided,
 ) -> Result<bool, AllocError>
     requires query { IsLocatedRequest query }
+    requires near { length near.now ≡ MOST_ROUTERS }
     requires bounds { IsRankBound query.table.now query.request.now (B.bound_of bounds.now) }
     requires guided { AreGuided query.table.now query.request.now (B.bound_of bounds.now) guided.old }
     ensures guided { OnOk result (AreGuided query.entry.table.now query.entry.request.now
         (B.bound_of bounds.now) guided.new) }
+    ensures most { OnOk result (guided.new.most ≤ guided.old.most) }
 {
     let Some(key) = guided.take() else {
         return Ok(true);
@@ -132,7 +139,7 @@ fn turn<B: LowerBounds>(
     if guided.ranks[place] != rank || place >= query.table.routers().len() {
         return Ok(false);
     }
-    look(query, bounds, place, rank, guided)?;
+    look(query, bounds, place, rank, near, guided)?;
     Ok(false)
 }
 
@@ -140,16 +147,19 @@ fn turn<B: LowerBounds>(
 pub(crate) fn guide<B: LowerBounds>(
     query: LocatedRequest<'_>,
     bounds: &B,
+    near: &[u64],
     guided: &mut Guided,
 ) -> Result<(), AllocError>
     requires query { IsLocatedRequest query }
+    requires near { length near.now ≡ MOST_ROUTERS }
     requires bounds { IsRankBound query.table.now query.request.now (B.bound_of bounds.now) }
     requires guided { AreGuided query.table.now query.request.now (B.bound_of bounds.now) guided.old }
     ensures guided { OnOk result (AreGuided query.entry.table.now query.entry.request.now
         (B.bound_of bounds.now) guided.new) }
+    ensures most { OnOk result (guided.new.most ≤ guided.old.most) }
 {
     for _turn in 0..MOST_GUIDED_TURNS {
-        if turn(query, bounds, guided)? {
+        if turn(query, bounds, near, guided)? {
             return Ok(());
         }
     }

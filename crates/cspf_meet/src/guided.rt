@@ -105,4 +105,13 @@ impl Guided {
         }
         Ok(())
     }
+
+    /// Notes that a way from the head-end to the tail-end has the rank `rank`.
+    pub(crate) fn meet(&mut self, rank: u64)
+        ensures ranks { self.new.ranks ≡ self.old.ranks }
+        ensures rank { self.new.most ≤ rank }
+        ensures falls { (bounds : ℕ → ℕ) → GuidedFalls bounds self.old self.new }
+    {
+        self.most = self.most.min(rank);
+    }
 }

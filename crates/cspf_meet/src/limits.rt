@@ -18,9 +18,12 @@ pub(crate) const FEW: usize = 12;
 /// The greatest number of keys that both searches take from their heaps.
 pub(crate) const MOST_TURNS: usize = 65_536;
 
+/// The greatest number of keys that the search from the tail-end takes from its heap before a search
+/// that lower bounds guide.
+pub(crate) const MOST_BACK_TURNS: usize = 32;
+
 /// The greatest number of keys that a search takes that lower bounds guide. If there is no route,
-/// such a search would look at all routers that it can reach, where the search from both ends may
-/// find at once that only a few routers lead to the tail-end. On drawn networks of 1,024 routers one
+/// such a search would look at all routers that it can reach. On drawn networks of 1,024 routers one
 /// in 100 searches for a route takes more keys than this.
 pub(crate) const MOST_GUIDED_TURNS: usize = 512;
 

@@ -4,6 +4,7 @@
 
 ghost use Rattle.std.specs.Prelude.{◌≡◌, ◌≢◌, ◌+◌, ◌<◌, ◌≤◌, ◌^◌, ◌↔◌, ℕ, IsTrue, IfOk, OnOk, length};
 ghost use Rattle.cspf_columns.specs.declared.limits.TheConstants.{NO_LINK};
+ghost use Rattle.cspf_model.specs.declared.limits.TheConstants.{MOST_ROUTERS};
 ghost use Rattle.cspf_meet.specs.declared.limits.TheConstants.{NO_WAY};
 ghost use Rattle.cspf_db.specs.Index.{router_list};
 ghost use Rattle.cspf_walk.specs.Ways.{IsLocatedRequest};
@@ -123,9 +124,10 @@ fn turn_at<'a>(
     place: usize,
     rank: u64,
     beyond: u64,
-    others: &'a Labels,
+    others: &'a [u64],
 ) -> Turn<'a>
     requires query { IsLocatedRequest query }
+    requires many { length others.now ≡ MOST_ROUTERS }
     requires within { place < length (router_list query.table.now) }
     requires small { rank < 2 ^ 54 }
     requires low { beyond < 2 ^ 54 }
@@ -141,7 +143,7 @@ fn turn_at<'a>(
     Turn {
         direction,
         links,
-        others: &others.ranks,
+        others,
         rank,
         beyond,
         goal,
@@ -150,17 +152,19 @@ fn turn_at<'a>(
 
 /// Looks at the waiting router of the least rank, in the search of this direction. Returns the
 /// least rank found so far of a way from the head-end to the tail-end. Before the call it is
-/// `most`. `beyond` is the least rank that waits in the other search, whose labels are `others`.
+/// `most`. `beyond` is the least rank that waits in the other search, and `others` has for each
+/// router its rank in that search.
 #[inline(always)]
 pub(crate) fn turn(
     query: LocatedRequest<'_>,
     direction: Direction,
     beyond: u64,
     most: u64,
-    others: &Labels,
+    others: &[u64],
     labels: &mut Labels,
 ) -> Result<u64, AllocError>
     requires query { IsLocatedRequest query }
+    requires many { length others.now ≡ MOST_ROUTERS }
     requires low { beyond < 2 ^ 54 }
     requires small { most ≤ NO_WAY }
     requires looked { AreLookedAt (Steps direction query.table.now query.request.now) labels.old most }

@@ -56,7 +56,7 @@ impl Meeting {
                 Direction::Ahead,
                 back,
                 self.most,
-                &self.back,
+                &self.back.ranks,
                 &mut self.ahead,
             )?;
         } else {
@@ -65,7 +65,7 @@ impl Meeting {
                 Direction::Back,
                 ahead,
                 self.most,
-                &self.ahead,
+                &self.ahead.ranks,
                 &mut self.back,
             )?;
         }

@@ -8,7 +8,7 @@ ghost use Rattle.cspf_model.specs.Outcome.{answer_of};
 ghost use Rattle.cspf_model.specs.Routes.{IsRoute};
 ghost use Rattle.cspf_meet.specs.declared.limits.TheConstants.{NO_WAY};
 ghost use Rattle.cspf_meet.specs.Labels.{rank_at};
-ghost use Rattle.cspf_meet.specs.Looks.{HasNoneWaiting};
+ghost use Rattle.cspf_meet.specs.Looks.{AreLookedAt, HasNoneWaiting, LeadsBack};
 ghost use Rattle.cspf_meet.specs.Meetings.{IsMeeting};
 ghost use Rattle.cspf_walk.specs.Ways.{IsLocatedRequest};
 
@@ -35,6 +35,24 @@ fn is_cut(labels: &Labels, end: usize) -> bool
     labels.is_done() && labels.ranks[end] == NO_WAY
 }
 
+/// Whether no way leads from the head-end to the tail-end, since the search from the tail-end has
+/// found all routers that it can reach, and the head-end isn't one of them. `most` is the least rank
+/// found so far of a way from the head-end to the tail-end, or `NO_WAY`.
+pub(crate) fn is_cut_off(query: LocatedRequest<'_>, back: &Labels, most: u64) -> bool
+    requires query { IsLocatedRequest query }
+    requires back { AreLookedAt (LeadsBack query.table.now query.request.now) back.now most }
+    requires end { rank_at back.now.ranks.items query.to ≡ 0 }
+    ensures { result ≡ true → (route : List Linked)
+        → ¬ IsRoute query.entry.table.now query.entry.request.now route }
+{
+    // Law: if a request has no hops, its routes are the walks to the tail-end.
+    route_without_hops();
+    if most < NO_WAY {
+        return false;
+    }
+    is_cut(back, query.from)
+}
+
 /// Whether no way leads from the head-end to the tail-end, since one of the two searches has found
 /// all routers that it can reach, and the other end isn't one of them.
 fn is_apart(query: LocatedRequest<'_>, meeting: &Meeting) -> bool
@@ -51,7 +69,7 @@ fn is_apart(query: LocatedRequest<'_>, meeting: &Meeting) -> bool
     if is_cut(&meeting.ahead, query.to) {
         return true;
     }
-    is_cut(&meeting.back, query.from)
+    is_cut_off(query, &meeting.back, meeting.most)
 }
 
 /// The least route, if it follows from what the two searches and the search in the corridor find.

@@ -36,9 +36,9 @@ pub(crate) const WALK_COST: u64 = 10;
 
 /// The cost of a search that a tree guides, in hundredths of a search. It follows where a walk by
 /// the tree meets a router without a link of the request's bandwidth. On such a network of 1,024
-/// routers and 16,384 links it takes 65 hundredths of the instructions of a search, or 70 if all
-/// metrics are 1.
-pub(crate) const GUIDED_COST: u64 = 70;
+/// routers and 16,384 links both take about 60 hundredths of the instructions of a search, also if
+/// all metrics are 1.
+pub(crate) const GUIDED_COST: u64 = 60;
 
 /// The cost of growing a tree, in hundredths of a search. On a drawn network of 1,024 routers and
 /// 16,384 links, growing a tree takes 1,030,000 instructions. A search takes 71,000 instructions, or

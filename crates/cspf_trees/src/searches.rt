@@ -30,7 +30,7 @@ pub fn best_without_tree(
 
 /// The best answer to a request in the table's database that no walk by its tree has answered, found
 /// by the search from the head-end that the tree guides. The result is `None` if that search leaves
-/// the request open, as where there is no route, or where the request has hops.
+/// the request open, or if the request has hops.
 pub(crate) fn best_guided(
     alloc: Global,
     table: &Table,

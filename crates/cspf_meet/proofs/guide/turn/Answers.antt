@@ -1,6 +1,5 @@
-use Rattle.std.proofs.Common.{◌≡◌, ◌+◌, ◌<◌, inl, inr, length, sym, ap, subst, ◌∙◌, arith}
+use Rattle.std.proofs.Common.{◌≡◌, ◌+◌, ◌<◌, inl, inr, length, sym, ap, ◌∙◌, arith}
 use Rattle.std.proofs.lemmas.List.{get_or_read}
-use Rattle.cspf_meet.specs.Guided.{AreStepsGuided}
 use Rattle.cspf_meet.specs.Labels.{rank_at}
 use Rattle.cspf_meet.proofs.Guiding.{far_passed, guided_left, guided_on}
 use Rattle.cspf_meet.proofs.Waiting.{key_place, key_rank}
@@ -12,6 +11,7 @@ returns-in_default g c =
     let bound = g.B.LowerBounds.bound_of c.args.bounds.now in
     record {
       guided = guided_left c.args.query.table.now c.args.query.request.now bound c.args.guided.now c.take.new.self c.take.ensures.ranks c.take.ensures.most (λ v low waits. inr (c.in_default.ensures.none bound v waits)) c.requires.guided;
+      most = omega (arith, c.take.ensures.most);
     }
 
 pub returns-then-over-guided : goal.returns-then-over-guided
@@ -29,6 +29,7 @@ returns-then-over-guided g c =
             | inr still ↦ inr still
           ])
           c.requires.guided;
+      most = omega (arith, c.take.ensures.most);
     }
 
 pub returns-then-index-rank : goal.returns-then-index-rank
@@ -57,6 +58,7 @@ returns-then-index-rank g c =
             | inr still ↦ inr still
           ])
           c.requires.guided;
+      most = omega (arith, c.take.ensures.most);
     }
 
 pub returns : goal.returns
@@ -78,4 +80,5 @@ returns g c =
             | inr still ↦ inr still
           ])
           (sym was ∙ read ∙ c.if-index-rank.false) c.in_ok-look.ensures.falls c.in_ok-look.ensures.passed c.requires.guided;
+      most = omega (arith, c.in_ok-look.ensures.falls.most, c.take.ensures.most);
     }
